@@ -1,0 +1,5 @@
+pub mod Spelling
+pub mod Lists
+pub mod Reading
+pub mod Read
+pub mod Candidates

@@ -1,0 +1,25 @@
+-- What the clause readers give where they find no fault.
+use mathlib.Core.List.{List, _∷_, _++_}
+use mathlib.Core.Path.{_≡_}
+use Prim.Native.Nat.{ℕ}
+use lib.ListN.{length}
+use Rattle.std.specs.declared.option.Option.the-variants.{None}
+use Rattle.clauses.specs.Spelling.{clauseAt, afterClause, clausesIn, afterClauses, spellClauses}
+use Rattle.clauses.specs.Reading.{clauseFault, clausesFault}
+use Rattle.clauses.specs.Lists.{clausesOf}
+use Rattle.clauses.specs.declared.scope.Scope.{Scope}
+use Rattle.clauses.specs.declared.list.ClauseList.{ClauseList}
+
+-- the clause at the front was taken off without a fault
+pub record ClauseOff (scope : Scope) (at : ℕ) (bs literals after : List ℕ) : Type 0 where
+  pub sound : clauseFault scope at bs ≡ None
+  pub front : literals ≡ clauseAt bs
+  pub back : after ≡ afterClause bs
+  pub whole : bs ≡ length literals ∷ (literals ++ after)
+
+-- so many clauses were: the bytes are those of the list and then the rest
+pub record ClausesOff (scope : Scope) (count at : ℕ) (bs : List ℕ) (list : ClauseList) (after : List ℕ) : Type 0 where
+  pub sound : clausesFault scope count at bs ≡ None
+  pub clauses : clausesOf list ≡ clausesIn count bs
+  pub back : after ≡ afterClauses count bs
+  pub whole : bs ≡ spellClauses (clausesOf list) ++ after

@@ -1,0 +1,3 @@
+pub mod Literals
+pub mod Systems
+pub mod Laws
