@@ -5,7 +5,7 @@ use Prim.Native.Nat.{ℕ, zero, suc, _+_, _-_, _<_, _≤_, min}
 use native.Mathlib.Omega.{arith}
 use lib.ListN.{length, getD, take, drop, length-take, length-drop}
 use Rattle.std.proofs.shelf.Tests.{cases-lt}
-use Rattle.std.proofs.shelf.Lists.{take-rest, take-all, drop-all, take-append-drop, append-assoc, append-nil, take-at, drop-at, length-append}
+use Rattle.std.proofs.shelf.Lists.{take-rest, take-all, drop-all, take-append-drop, append-assoc, append-nil, take-at, drop-at, drop-drop, length-append}
 use mathlib.Core.Logic.{inl, inr}
 use Rattle.system.specs.Literals.{size}
 use Rattle.clauses.specs.Spelling.{clauseAt, afterClause, clausesIn, afterClauses, spellClauses}
@@ -105,3 +105,10 @@ after-spelled [] rest = refl
 after-spelled (c ∷ cs) rest =
     ap (afterClauses (length cs)) (ap (drop (length c)) (append-assoc c (spellClauses cs) rest) ∙ drop-at c _ (length c) refl)
     ∙ after-spelled cs rest
+
+-- what follows clauses is the bytes from some index on
+pub after-drop : (k : ℕ) (bs : List ℕ) → (j : ℕ) × (afterClauses k bs ≡ drop j bs)
+unfolding afterClauses
+after-drop zero bs = (0, refl)
+after-drop (suc k) [] = after-drop k []
+after-drop (suc k) (x ∷ xs) = let r = after-drop k (drop x xs) in (suc (x + r .0), r .1 ∙ drop-drop (r .0) x xs)

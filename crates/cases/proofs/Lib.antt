@@ -1,0 +1,5 @@
+pub mod Ends
+pub mod Parts
+pub mod Law
+pub mod Promises
+pub mod Places

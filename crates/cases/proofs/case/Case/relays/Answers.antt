@@ -1,0 +1,8 @@
+use mathlib.Core.Path.{ap, _∙_}
+use Rattle.cases.specs.Cases.{field}
+use Rattle.cases.specs.Meaning.{systemOf}
+use Rattle.cases.proofs.case.Case.relays.Needs as need
+
+pub returns : need.returns
+unfolding systemOf
+returns c = c .read-field .ensures ∙ ap (λ bs. field bs 0) (c .content .ensures .value)

@@ -1,0 +1,84 @@
+// The header of a case: nine 16-bit numbers, low byte first.
+ghost use mathlib.Core.Path.{_≡_};
+ghost use Prim.Native.Nat.{_+_, _<_};
+ghost use lib.ListN.{length};
+ghost use Rattle.std.specs.Results.{Cases};
+ghost use Rattle.std.specs.declared.option.Option.the-variants.{Some};
+ghost use Rattle.cases.specs.Cases.{headerFault, field};
+ghost use Rattle.cases.specs.Headers.{HeaderRead};
+use faults::CaseFault;
+use faults::ListName;
+
+// How many bytes a header has, and a case at most.
+pub(crate) const HEADER: usize = 18;
+
+const MOST: usize = 32768;
+
+// The numbers of a header that are within their bounds; the offsets are looked at with their sections.
+#[derive(Clone, Copy)]
+pub(crate) struct Header {
+    pub(crate) relays: u32,
+    pub(crate) inputs: u32,
+    pub(crate) start_count: usize,
+    pub(crate) step_count: usize,
+    pub(crate) safety_count: usize,
+    pub(crate) start_at: usize,
+    pub(crate) step_at: usize,
+    pub(crate) safety_at: usize,
+}
+
+// The number at byte i.
+pub(crate) fn read_field(bytes: &[u8], i: usize) -> u32
+    requires { ⌜ i + 1 < length (now bytes) ⌝ }
+    ensures { λ r. ⌜ r ≡ field (now (bytes .entry)) i ⌝ }
+{
+    bytes[i] as u32 + 256 * bytes[i + 1] as u32
+}
+
+impl Header {
+    // The header of the bytes, or its first fault.
+    pub(crate) fn read(bytes: &[u8]) -> Result<Header, CaseFault>
+        ensures { λ r. ⌜ Cases r (λ h. HeaderRead (now (bytes .entry)) h) (λ f. headerFault (now (bytes .entry)) ≡ Some f) ⌝ }
+    {
+        if bytes.len() < HEADER {
+            return Err(CaseFault::Short(bytes.len()));
+        }
+        let relays = read_field(bytes, 0);
+        if relays < 1 || relays > 32 {
+            return Err(CaseFault::Relays);
+        }
+        let inputs = read_field(bytes, 2);
+        if inputs > 64 {
+            return Err(CaseFault::Inputs);
+        }
+        let start_count = read_field(bytes, 4) as usize;
+        if start_count > 256 {
+            return Err(CaseFault::Count(ListName::Start));
+        }
+        let step_count = read_field(bytes, 6) as usize;
+        if step_count > 1024 {
+            return Err(CaseFault::Count(ListName::Step));
+        }
+        let safety_count = read_field(bytes, 8) as usize;
+        if safety_count > 256 {
+            return Err(CaseFault::Count(ListName::Safety));
+        }
+        let total = read_field(bytes, 16) as usize;
+        if total > MOST || total != bytes.len() {
+            return Err(CaseFault::Total);
+        }
+        let start_at = read_field(bytes, 10) as usize;
+        let step_at = read_field(bytes, 12) as usize;
+        let safety_at = read_field(bytes, 14) as usize;
+        Ok(Header {
+            relays,
+            inputs,
+            start_count,
+            step_count,
+            safety_count,
+            start_at,
+            step_at,
+            safety_at,
+        })
+    }
+}
