@@ -46,7 +46,7 @@ impl<'a> ClauseList<'a> {
     }
 
     // How many clauses there are.
-    pub fn count(&self) -> usize
+    pub fn len(&self) -> usize
         ensures { λ r. ⌜ r ≡ length (clausesOf (now (self .entry))) ⌝ }
     {
         self.count
