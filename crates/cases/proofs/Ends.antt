@@ -1,15 +1,15 @@
 -- Where sections end, and the bytes from there on. Assumes nothing.
-use mathlib.Core.List.{List, []}
+use mathlib.Core.List.{List}
 use mathlib.Core.Logic.{inl, inr}
 use mathlib.Core.Path.{_≡_, sym, ap, _∙_}
-use Prim.Native.Nat.{ℕ, _+_, _-_, _<_, _≤_}
+use Prim.Native.Nat.{ℕ, _+_, _-_}
 use native.Mathlib.Omega.{arith}
 use lib.ListN.{length, drop, length-drop}
 use Rattle.std.proofs.shelf.Lists.{drop-all, drop-drop}
 use Rattle.std.proofs.shelf.Tests.{cases-lt}
 use Rattle.clauses.specs.Spelling.{afterClauses}
 use Rattle.clauses.proofs.Spelled.{after-drop}
-use Rattle.cases.specs.Cases.{field, endOf, stepPlace, safetyPlace, leftPlace}
+use Rattle.cases.specs.Cases.{endOf, stepPlace, safetyPlace, leftPlace}
 
 -- the bytes from the start of each section on, and those left over
 abbrev pub startBytes : List ℕ → List ℕ

@@ -14,7 +14,7 @@ use Rattle.cases.specs.Spelling.{stepAt, safetyAt, spell, Admitted}
 use Rattle.cases.specs.Cases.{field, stepPlace, safetyPlace, systemIn}
 use Rattle.cases.specs.Sound.{Sound}
 use Rattle.cases.specs.Answers.{listOf, beginning}
-use Rattle.cases.proofs.Law.{spelled-length, Lengths, lengths}
+use Rattle.cases.proofs.Law.{spelled-length, lengths}
 
 -- what the header says of the lists
 module _ (bs : List ℕ) (s : Sound bs) where

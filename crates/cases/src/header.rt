@@ -14,17 +14,21 @@ pub(crate) const HEADER: usize = 18;
 
 const MOST: usize = 32768;
 
-// The numbers of a header that are within their bounds; the offsets are looked at with their sections.
+// What a header states of one list: how many clauses it has, and at which byte it begins.
+#[derive(Clone, Copy)]
+pub(crate) struct Stated {
+    pub(crate) count: usize,
+    pub(crate) at: usize,
+}
+
+// The numbers of a header within their bounds; where a list begins is looked at with its section.
 #[derive(Clone, Copy)]
 pub(crate) struct Header {
     pub(crate) relays: u32,
     pub(crate) inputs: u32,
-    pub(crate) start_count: usize,
-    pub(crate) step_count: usize,
-    pub(crate) safety_count: usize,
-    pub(crate) start_at: usize,
-    pub(crate) step_at: usize,
-    pub(crate) safety_at: usize,
+    pub(crate) start: Stated,
+    pub(crate) step: Stated,
+    pub(crate) safety: Stated,
 }
 
 // The number at byte i.
@@ -67,18 +71,24 @@ impl Header {
         if total > MOST || total != bytes.len() {
             return Err(CaseFault::Total);
         }
-        let start_at = read_field(bytes, 10) as usize;
-        let step_at = read_field(bytes, 12) as usize;
-        let safety_at = read_field(bytes, 14) as usize;
+        let start = Stated {
+            count: start_count,
+            at: read_field(bytes, 10) as usize,
+        };
+        let step = Stated {
+            count: step_count,
+            at: read_field(bytes, 12) as usize,
+        };
+        let safety = Stated {
+            count: safety_count,
+            at: read_field(bytes, 14) as usize,
+        };
         Ok(Header {
             relays,
             inputs,
-            start_count,
-            step_count,
-            safety_count,
-            start_at,
-            step_at,
-            safety_at,
+            start,
+            step,
+            safety,
         })
     }
 }

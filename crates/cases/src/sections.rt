@@ -8,6 +8,7 @@ ghost use Rattle.cases.specs.Sections.{SectionPassed};
 ghost use Rattle.cases.specs.Spelling.{AcceptedAsSpelled, SpelledOnce};
 use crate::header::HEADER;
 use crate::header::Header;
+use crate::header::Stated;
 use clauses::Scope;
 use clauses::read_clauses;
 use faults::CaseFault;
@@ -17,18 +18,17 @@ use faults::ListName;
 // Looks a section through that begins at byte at: the index of the first byte after it.
 fn check_section(
     list: ListName,
-    stated: usize,
     scope: Scope,
-    count: usize,
+    stated: Stated,
     bytes: &[u8],
     at: usize,
 ) -> Result<usize, CaseFault>
-    ensures { λ r. ⌜ Cases r (λ next. SectionPassed list stated scope count at (now (bytes .entry)) next) (λ f. sectionFault list stated scope count at (now (bytes .entry)) ≡ Some f) ⌝ }
+    ensures { λ r. ⌜ Cases r (λ next. SectionPassed list (stated .at) scope (stated .count) at (now (bytes .entry)) next) (λ f. sectionFault list (stated .at) scope (stated .count) at (now (bytes .entry)) ≡ Some f) ⌝ }
 {
-    if stated != at {
+    if stated.at != at {
         return Err(CaseFault::Offset(list));
     }
-    let (_, after) = read_clauses(scope, count, bytes, at)?;
+    let (_, after) = read_clauses(scope, stated.count, bytes, at)?;
     Ok(bytes.len() - after.len())
 }
 
@@ -49,30 +49,9 @@ fn check_parts(bytes: &[u8]) -> Result<(), CaseFault>
     let header = Header::read(bytes)?;
     let before = Scope::Before(header.relays);
     let across = Scope::Across(header.relays, header.inputs);
-    let step_at = check_section(
-        ListName::Start,
-        header.start_at,
-        before,
-        header.start_count,
-        bytes,
-        HEADER,
-    )?;
-    let safety_at = check_section(
-        ListName::Step,
-        header.step_at,
-        across,
-        header.step_count,
-        bytes,
-        step_at,
-    )?;
-    let end = check_section(
-        ListName::Safety,
-        header.safety_at,
-        before,
-        header.safety_count,
-        bytes,
-        safety_at,
-    )?;
+    let step_at = check_section(ListName::Start, before, header.start, bytes, HEADER)?;
+    let safety_at = check_section(ListName::Step, across, header.step, bytes, step_at)?;
+    let end = check_section(ListName::Safety, before, header.safety, bytes, safety_at)?;
     if end != bytes.len() {
         return Err(CaseFault::LeftOver(end));
     }

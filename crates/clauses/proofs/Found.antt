@@ -1,40 +1,36 @@
 -- Faults one clause and one literal at a time. Assumes nothing.
-use mathlib.Core.Bool.{Bool, true, false, cond}
 use mathlib.Core.List.{List, [], _∷_, _++_}
 use mathlib.Core.Path.{_≡_, refl, sym, ap, ap₂, subst, _∙_}
-use Prim.Native.Nat.{ℕ, zero, suc, _+_, _-_, _/_, _<_, _≤_}
+use Prim.Native.Nat.{ℕ, suc, _+_, _-_, _<_, _≤_}
 use native.Mathlib.Numerals.{add-one}
 use native.Mathlib.Omega.{arith}
-use lib.Dec.{leb, ltb}
 use lib.ListN.{length, getD, take, drop, length-take}
-use Rattle.std.proofs.shelf.Tests.{cond-true, cond-false, lt-ltb, le-ltb, le-leb, lt-leb}
+use Rattle.std.proofs.shelf.Tests.{le-leb, lt-leb}
 use Rattle.std.proofs.shelf.Lists.{at-drop-more, take-rest, take-append-drop, append-nil, append-assoc, length-append, take-at, drop-at}
-use Rattle.std.specs.declared.option.Option.{Option}
 use Rattle.std.specs.declared.option.Option.the-variants.{Some, None}
+use Rattle.system.specs.Literals.{variableOf}
 use Rattle.clauses.specs.Spelling.{clauseAt, afterClause, clausesIn, afterClauses, spellClauses}
-use Rattle.faults.specs.Firsts.{orElse}
-use Rattle.clauses.specs.Reading.{inScope, literalsFault, clauseFault, clausesFault}
-use Rattle.clauses.specs.Read.{ClauseOff, ClausesOff}
+use Rattle.faults.specs.Firsts.{unmet, orElse}
+use Rattle.clauses.specs.Reading.{literalFault, literalsFault, clauseFault, clausesFault}
+use Rattle.clauses.specs.Read.{LiteralPassed, ClauseOff}
 use Rattle.clauses.proofs.Spelled.{after-more, clauses-more, clauses-length, spell-append, clauses-spelled}
 use Rattle.faults.specs.declared.clause.ClauseFault.{ClauseFault}
-use Rattle.faults.specs.declared.clause.ClauseFault.the-variants.{PastEnd, Variable, Order}
+use Rattle.faults.specs.declared.clause.ClauseFault.the-variants.{PastEnd}
 use Rattle.clauses.specs.declared.scope.Scope.{Scope}
 
 -- one literal
-module _ (scope : Scope) (at low : ℕ) (ls : List ℕ) (i : ℕ) (h : i < length ls) (v : ℕ) (is : v ≡ getD ls i 0 / 2) where
-  literal-step : literalsFault scope at low (drop i ls) ≡ cond (inScope scope v) (cond (ltb v low) (Some (Order at)) (literalsFault scope (at + 1) (v + 1) (drop (i + 1) ls))) (Some (Variable at))
-  literal-step =
-      at-drop-more (literalsFault scope at low) ls i 0 h
-      ∙ ap (λ w. cond (inScope scope w) (cond (ltb w low) (Some (Order at)) (literalsFault scope (at + 1) (w + 1) (drop (i + 1) ls))) (Some (Variable at))) (sym is)
+module _ (scope : Scope) (at low : ℕ) (ls : List ℕ) (i : ℕ) (h : i < length ls) where
+  literal-step : literalsFault scope at low (drop i ls) ≡ orElse (literalFault scope at low (getD ls i 0)) (literalsFault scope (at + 1) (variableOf (getD ls i 0) + 1) (drop (i + 1) ls))
+  literal-step = at-drop-more (literalsFault scope at low) ls i 0 h
 
-  pub literal-variable : inScope scope v ≡ false → literalsFault scope at low (drop i ls) ≡ Some (Variable at)
-  literal-variable e = literal-step ∙ cond-false _ _ _ e
+  pub literal-bad : (f : ClauseFault) → literalFault scope at low (getD ls i 0) ≡ Some f → literalsFault scope at low (drop i ls) ≡ Some f
+  literal-bad f e = literal-step ∙ ap (λ o. orElse o (literalsFault scope (at + 1) (variableOf (getD ls i 0) + 1) (drop (i + 1) ls))) e
 
-  pub literal-order : inScope scope v ≡ true → v < low → literalsFault scope at low (drop i ls) ≡ Some (Order at)
-  literal-order e l = literal-step ∙ cond-true _ _ _ e ∙ cond-true _ _ _ (lt-ltb v low l)
-
-  pub literal-good : inScope scope v ≡ true → low ≤ v → literalsFault scope at low (drop i ls) ≡ literalsFault scope (at + 1) (v + 1) (drop (i + 1) ls)
-  literal-good e l = literal-step ∙ cond-true _ _ _ e ∙ cond-false _ _ _ (le-ltb v low l)
+  pub literal-good : (next : ℕ) → LiteralPassed scope at low (getD ls i 0) next → literalsFault scope at low (drop i ls) ≡ literalsFault scope (at + 1) next (drop (i + 1) ls)
+  literal-good next p =
+      literal-step
+      ∙ ap (λ o. orElse o (literalsFault scope (at + 1) (variableOf (getD ls i 0) + 1) (drop (i + 1) ls))) (p .sound)
+      ∙ ap (λ v. literalsFault scope (at + 1) v (drop (i + 1) ls)) (sym (p .above))
 
 -- one clause
 module _ (scope : Scope) (at : ℕ) where
@@ -44,11 +40,11 @@ module _ (scope : Scope) (at : ℕ) where
 
   pub clause-past : (bs : List ℕ) → 0 < length bs → length (take (length bs - 1) (drop 1 bs)) < getD bs 0 0 → clauseFault scope at bs ≡ Some (PastEnd at)
   clause-past [] h l = refl
-  clause-past (x ∷ xs) h l = cond-false _ _ _ (lt-leb x (length xs) (subst (λ ys. length ys < x) (take-rest (x ∷ xs) 1) l))
+  clause-past (x ∷ xs) h l = ap (λ b. orElse (unmet b (PastEnd at)) (literalsFault scope (at + 1) 0 (take x xs))) (lt-leb x (length xs) (subst (λ ys. length ys < x) (take-rest (x ∷ xs) 1) l))
 
   pub clause-inside : (bs : List ℕ) → 0 < length bs → getD bs 0 0 ≤ length (take (length bs - 1) (drop 1 bs)) → clauseFault scope at bs ≡ literalsFault scope (at + 1) 0 (clauseAt bs)
   clause-inside [] h l = absurd (let z : ⊥ = omega arith in z)
-  clause-inside (x ∷ xs) h l = cond-true _ _ _ (le-leb x (length xs) (subst (λ ys. x ≤ length ys) (take-rest (x ∷ xs) 1) l))
+  clause-inside (x ∷ xs) h l = ap (λ b. orElse (unmet b (PastEnd at)) (literalsFault scope (at + 1) 0 (take x xs))) (le-leb x (length xs) (subst (λ ys. x ≤ length ys) (take-rest (x ∷ xs) 1) l))
 
 pub clause-whole : (bs : List ℕ) → 0 < length bs → getD bs 0 0 ≤ length (take (length bs - 1) (drop 1 bs)) → bs ≡ length (clauseAt bs) ∷ (clauseAt bs ++ afterClause bs)
 clause-whole [] h l = absurd (let z : ⊥ = omega arith in z)

@@ -1,11 +1,9 @@
 -- Candidates read one after another up to the end. Assumes nothing.
-use mathlib.Core.Bool.{Bool, true, false, cond}
 use mathlib.Core.List.{List, [], _∷_}
 use mathlib.Core.Logic.{inl, inr}
 use mathlib.Core.Path.{_≡_, refl, sym, ap, subst, _∙_}
 use Prim.Native.Nat.{ℕ, zero, suc, _+_, _-_, _<_, _≤_}
 use native.Mathlib.Omega.{arith}
-use lib.Dec.{leb}
 use lib.ListN.{length, drop, length-drop}
 use Rattle.std.proofs.shelf.Lists.{length-append}
 use Rattle.std.proofs.shelf.Tests.{le-leb, lt-leb, cases-eq}
@@ -16,11 +14,10 @@ use Rattle.faults.specs.Firsts.{unmet, orElse, inside, unless}
 use Rattle.clauses.specs.Reading.{clauseFault, clausesFault}
 use Rattle.clauses.specs.Candidates.{countWithin, countIn, tooMany, readCandidates}
 use Rattle.clauses.specs.Read.{ClauseOff}
-use Rattle.faults.specs.declared.work.WorkFault.{WorkFault}
 use Rattle.faults.specs.declared.work.WorkFault.the-variants.{InCandidates, TooManyCandidates}
 use Rattle.faults.specs.declared.clause.ClauseFault.{ClauseFault}
 use Rattle.clauses.specs.declared.scope.Scope.the-variants.{Before}
-use Rattle.clauses.proofs.Found.{Midway, midway-start, midway-short, midway-fault, midway-on, midway-end}
+use Rattle.clauses.proofs.Found.{Midway, midway-start, midway-fault, midway-on, midway-end}
 
 -- more turns than bytes change nothing
 enough : (k j : ℕ) (bs : List ℕ) → length bs ≤ k → length bs ≤ j → countWithin k bs ≡ countWithin j bs
@@ -55,9 +52,6 @@ module _ (n : ℕ) (bs : List ℕ) where
   gathering-start = record { midway = midway-start (Before n) (countIn bs) 0 bs; left = omega arith; few = omega arith; met = λ h. absurd (let z : ⊥ = omega arith in z) }
 
   module _ (k extra : ℕ) (rest : List ℕ) (g : Gathering n bs k extra rest) where
-    pub gathering-short : length rest ≤ length bs
-    gathering-short = midway-short (Before n) (countIn bs) 0 bs k rest (g .midway)
-
     below : (length rest ≡ 0 → ⊥) → k < countIn bs
     below h = let e = g .left in let f = count-some rest h in omega arith
 

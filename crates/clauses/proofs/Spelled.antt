@@ -1,11 +1,11 @@
 -- Clauses in bytes: taking one off the front, and lists of them one after another. Assumes nothing.
 use mathlib.Core.List.{List, [], _∷_, _++_}
-use mathlib.Core.Path.{_≡_, refl, sym, ap, ap₂, subst, _∙_}
+use mathlib.Core.Path.{_≡_, refl, sym, ap, ap₂, _∙_}
 use Prim.Native.Nat.{ℕ, zero, suc, _+_, _-_, _<_, _≤_, min}
 use native.Mathlib.Omega.{arith}
 use lib.ListN.{length, getD, take, drop, length-take, length-drop}
 use Rattle.std.proofs.shelf.Tests.{cases-lt}
-use Rattle.std.proofs.shelf.Lists.{take-rest, take-all, drop-all, take-append-drop, append-assoc, append-nil, take-at, drop-at, drop-drop, length-append}
+use Rattle.std.proofs.shelf.Lists.{take-rest, take-all, drop-all, append-assoc, take-at, drop-at, drop-drop}
 use mathlib.Core.Logic.{inl, inr}
 use Rattle.system.specs.Literals.{size}
 use Rattle.clauses.specs.Spelling.{clauseAt, afterClause, clausesIn, afterClauses, spellClauses}
@@ -50,16 +50,13 @@ unfolding clausesIn
 clauses-first zero bs e = absurd (let z : ⊥ = omega arith in z)
 clauses-first (suc k) bs e = ap (λ j. clauseAt bs ∷ clausesIn j (afterClause bs)) (let p : k ≡ suc k - 1 = omega arith in p)
 
-nothing-at : (bs : List ℕ) → length bs ≡ 0 → bs ≡ clauseAt bs
+pub nothing-at : (bs : List ℕ) → length bs ≡ 0 → bs ≡ clauseAt bs
 nothing-at [] h = refl
 nothing-at (x ∷ xs) h = absurd (let z : ⊥ = omega arith in z)
 
-nothing-after : (bs : List ℕ) → length bs ≡ 0 → bs ≡ afterClause bs
+pub nothing-after : (bs : List ℕ) → length bs ≡ 0 → bs ≡ afterClause bs
 nothing-after [] h = refl
 nothing-after (x ∷ xs) h = absurd (let z : ⊥ = omega arith in z)
-
-pub clauses-empty : (k : ℕ) (bs : List ℕ) → (k ≡ 0 → ⊥) → length bs ≡ 0 → clausesIn k bs ≡ bs ∷ clausesIn (k - 1) bs
-clauses-empty k bs e h = clauses-first k bs e ∙ ap₂ (λ d cs. d ∷ clausesIn (k - 1) cs) (sym (nothing-at bs h)) (sym (nothing-after bs h))
 
 -- how many they are, and how many literals they have at most
 pub clauses-length : (k : ℕ) (bs : List ℕ) → length (clausesIn k bs) ≡ k

@@ -1,35 +1,26 @@
 -- Clauses without a fault are those within their scope whose variables rise. Assumes nothing.
-use mathlib.Core.Bool.{Bool, true, false, cond}
+use mathlib.Core.Bool.{true}
 use mathlib.Core.List.{List, [], _∷_, _++_}
-use mathlib.Core.Path.{_≡_, refl, sym, ap, ap₂, subst, _∙_}
+use mathlib.Core.Path.{_≡_, refl, sym, ap, ap₂, _∙_}
 use Prim.Native.Nat.{ℕ, zero, suc, _+_, _-_, _/_, _<_, _≤_}
 use native.Mathlib.Omega.{arith}
-use lib.Dec.{T, leb, ltb}
+use lib.Dec.{T, leb}
 use lib.ListN.{length, take, drop}
-use Rattle.std.specs.declared.option.Option.{Option}
-use Rattle.std.specs.declared.option.Option.the-variants.{Some, None}
+use Rattle.std.specs.declared.option.Option.the-variants.{None}
 use Rattle.std.specs.shelf.Lists.{All}
-use Rattle.std.proofs.shelf.Tests.{cond-true, cond-false, lt-ltb, le-ltb, le-leb, leb-true, ltb-false, ltb-true}
+use Rattle.std.proofs.shelf.Tests.{lt-ltb, le-leb, leb-true, ltb-true}
 use Rattle.std.proofs.shelf.Elements.{all-weaker}
 use Rattle.std.proofs.shelf.Lists.{take-append-drop, append-assoc, take-at, drop-at, length-append}
+use Rattle.system.specs.Literals.{variableOf}
 use Rattle.system.specs.Systems.{OverRelays, OverVariables, Rising}
 use Rattle.system.proofs.Truth.{T-of, T-true}
-use Rattle.clauses.specs.Spelling.{clauseAt, afterClause, clausesIn, afterClauses, spellClauses}
-use Rattle.faults.specs.Firsts.{orElse}
-use Rattle.faults.proofs.Firsts.{some-clash, or-none}
-use Rattle.clauses.specs.Reading.{inScope, literalsFault, clauseFault, clausesFault}
-use Rattle.faults.specs.declared.clause.ClauseFault.{ClauseFault}
+use Rattle.clauses.specs.Spelling.{clausesIn, afterClauses, spellClauses}
+use Rattle.faults.specs.Firsts.{unmet, orElse}
+use Rattle.faults.proofs.Firsts.{some-clash, or-none, unmet-none, none-unmet}
+use Rattle.clauses.specs.Reading.{inScope, literalFault, literalsFault, clauseFault, clausesFault}
 use Rattle.faults.specs.declared.clause.ClauseFault.the-variants.{PastEnd, Variable, Order}
 use Rattle.clauses.specs.declared.scope.Scope.{Scope}
 use Rattle.clauses.specs.declared.scope.Scope.the-variants.{Before, Across}
-
-cond-none : {F : Type 0} (b : Bool) (o : Option F) (f : F) → cond b o (Some f) ≡ None → (b ≡ true) × (o ≡ None)
-cond-none true o f e = (refl, e)
-cond-none false o f e = absurd (some-clash f e)
-
-cond-none-else : {F : Type 0} (b : Bool) (o : Option F) (f : F) → cond b (Some f) o ≡ None → (b ≡ false) × (o ≡ None)
-cond-none-else true o f e = absurd (some-clash f e)
-cond-none-else false o f e = (refl, e)
 
 -- a clause of a list: its variables lie in the scope, and rise
 pub record Formed (scope : Scope) (d : List ℕ) : Type 0 where
@@ -44,21 +35,19 @@ module _ (scope : Scope) where
   literals-formed : (at low : ℕ) (ls : List ℕ) → literalsFault scope at low ls ≡ None → Above low ls
   literals-formed at low [] e = record { above = tt; formed = record { over = tt; rising = tt } }
   literals-formed at low (l ∷ ls) e =
-      let p = cond-none (inScope scope (l / 2)) _ _ e in
-      let q = cond-none-else (ltb (l / 2) low) (literalsFault scope (at + 1) (l / 2 + 1) ls) _ (p .1) in
-      let r = literals-formed (at + 1) (l / 2 + 1) ls (q .1) in
-      let b = ltb-false (l / 2) low (q .0) in
+      let p = or-none (literalFault scope at low l) (literalsFault scope (at + 1) (variableOf l + 1) ls) e in
+      let q = or-none (unmet (inScope scope (variableOf l)) (Variable at)) (unmet (leb low (variableOf l)) (Order at)) (p .0) in
+      let r = literals-formed (at + 1) (variableOf l + 1) ls (p .1) in
       record {
-        above = (b, all-weaker (λ k. l / 2 + 1 ≤ k / 2) (λ k. low ≤ k / 2) (λ k h. omega arith) ls (r .above));
-        formed = record { over = (p .0, r .formed .over); rising = (all-weaker (λ k. l / 2 + 1 ≤ k / 2) (λ k. l / 2 < k / 2) (λ k h. omega arith) ls (r .above), r .formed .rising) };
+        above = (leb-true low (variableOf l) (unmet-none (leb low (variableOf l)) _ (q .1)), all-weaker (λ k. l / 2 + 1 ≤ k / 2) (λ k. low ≤ k / 2) (λ k h. let b = leb-true low (variableOf l) (unmet-none (leb low (variableOf l)) _ (q .1)) in omega arith) ls (r .above));
+        formed = record { over = (unmet-none (inScope scope (variableOf l)) _ (q .0), r .formed .over); rising = (all-weaker (λ k. l / 2 + 1 ≤ k / 2) (λ k. l / 2 < k / 2) (λ k h. omega arith) ls (r .above), r .formed .rising) };
       }
 
   formed-literals : (at low : ℕ) (ls : List ℕ) → All (λ l. low ≤ l / 2) ls → Formed scope ls → literalsFault scope at low ls ≡ None
   formed-literals at low [] a f = refl
   formed-literals at low (l ∷ ls) a f =
-      cond-true _ _ _ (f .over .0)
-      ∙ cond-false _ _ _ (le-ltb (l / 2) low (a .0))
-      ∙ formed-literals (at + 1) (l / 2 + 1) ls (all-weaker (λ k. l / 2 < k / 2) (λ k. l / 2 + 1 ≤ k / 2) (λ k h. omega arith) ls (f .rising .0)) (record { over = f .over .1; rising = f .rising .1 })
+      ap₂ orElse (ap₂ orElse (none-unmet (inScope scope (variableOf l)) (Variable at) (f .over .0)) (none-unmet (leb low (variableOf l)) (Order at) (le-leb low (variableOf l) (a .0))))
+      (formed-literals (at + 1) (variableOf l + 1) ls (all-weaker (λ k. l / 2 < k / 2) (λ k. l / 2 + 1 ≤ k / 2) (λ k h. omega arith) ls (f .rising .0)) (record { over = f .over .1; rising = f .rising .1 }))
 
   -- clauses that were read
   pub record ClausesFormed (k : ℕ) (bs : List ℕ) : Type 0 where
@@ -71,13 +60,13 @@ module _ (scope : Scope) where
   clauses-formed (suc k) at [] e = absurd (some-clash _ e)
   clauses-formed (suc k) at (x ∷ xs) e =
       let p = or-none (clauseFault scope at (x ∷ xs)) _ e in
-      let q = cond-none (leb x (length xs)) (literalsFault scope (at + 1) 0 (take x xs)) _ (p .0) in
+      let q = or-none (unmet (leb x (length xs)) (PastEnd at)) (literalsFault scope (at + 1) 0 (take x xs)) (p .0) in
       let f = literals-formed (at + 1) 0 (take x xs) (q .1) in
       let r = clauses-formed k (at + 1 + length (take x xs)) (drop x xs) (p .1) in
       record {
         formed = (f .formed, r .formed);
         whole =
-            ap₂ (λ y ys. y ∷ ys) (let l = leb-true x (length xs) (q .0) in let n = length-take-is x xs l in sym n)
+            ap₂ (λ y ys. y ∷ ys) (let l = leb-true x (length xs) (unmet-none (leb x (length xs)) _ (q .0)) in let n = length-take-is x xs l in sym n)
             (sym (take-append-drop x xs) ∙ ap (λ ys. take x xs ++ ys) (r .whole) ∙ sym (append-assoc (take x xs) (spellClauses (clausesIn k (drop x xs))) (afterClauses k (drop x xs))));
       }
     where
@@ -99,7 +88,7 @@ module _ (scope : Scope) where
       let back : drop (length c) (c ++ spellClauses cs ++ rest) ≡ spellClauses cs ++ rest = ap (drop (length c)) s ∙ drop-at c _ (length c) refl in
       let n : length c ≤ length (c ++ spellClauses cs ++ rest) = let e = ap length s ∙ length-append c (spellClauses cs ++ rest) in omega arith in
       ap₂ orElse
-      (cond-true _ _ _ (le-leb (length c) _ n) ∙ ap (literalsFault scope (at + 1) 0) front ∙ formed-literals (at + 1) 0 c (all-low c) (h .0))
+      (ap₂ orElse (none-unmet _ (PastEnd at) (le-leb (length c) _ n)) (ap (literalsFault scope (at + 1) 0) front ∙ formed-literals (at + 1) 0 c (all-low c) (h .0)))
       (ap (λ bs. clausesFault scope (length cs) (at + 1 + length (take (length c) (c ++ spellClauses cs ++ rest))) bs) back ∙ formed-clauses cs (at + 1 + length (take (length c) (c ++ spellClauses cs ++ rest))) rest (h .1))
 
 -- the scopes of the two kinds of list

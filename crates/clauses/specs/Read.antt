@@ -1,14 +1,20 @@
 -- What the clause readers give where they find no fault.
 use mathlib.Core.List.{List, _∷_, _++_}
 use mathlib.Core.Path.{_≡_}
-use Prim.Native.Nat.{ℕ}
+use Prim.Native.Nat.{ℕ, _+_}
 use lib.ListN.{length}
 use Rattle.std.specs.declared.option.Option.the-variants.{None}
+use Rattle.system.specs.Literals.{variableOf}
 use Rattle.clauses.specs.Spelling.{clauseAt, afterClause, clausesIn, afterClauses, spellClauses}
-use Rattle.clauses.specs.Reading.{clauseFault, clausesFault}
+use Rattle.clauses.specs.Reading.{literalFault, clauseFault, clausesFault}
 use Rattle.clauses.specs.Lists.{clausesOf}
 use Rattle.clauses.specs.declared.scope.Scope.{Scope}
 use Rattle.clauses.specs.declared.list.ClauseList.{ClauseList}
+
+-- a literal has no fault, and the next is to be about a variable from next up
+pub record LiteralPassed (scope : Scope) (at low l next : ℕ) : Type 0 where
+  pub sound : literalFault scope at low l ≡ None
+  pub above : next ≡ variableOf l + 1
 
 -- the clause at the front was taken off without a fault
 pub record ClauseOff (scope : Scope) (at : ℕ) (bs literals after : List ℕ) : Type 0 where

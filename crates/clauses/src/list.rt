@@ -2,7 +2,7 @@
 ghost use mathlib.Core.Path.{_≡_};
 ghost use lib.ListN.{length};
 ghost use Rattle.system.specs.Literals.{size};
-ghost use Rattle.clauses.specs.Spelling.{clausesIn};
+ghost use Rattle.clauses.specs.Spelling.{clauseAt, afterClause, clausesIn};
 ghost use Rattle.clauses.specs.Lists.{clausesOf, Stepped};
 
 // A list of clauses in bytes, which gives them in order. Where a clause would pass the end, it has what is there: of a
@@ -26,15 +26,24 @@ pub impl<'a> Iterator for ClauseList<'a> as ClauseListIterator {
         if self.count == 0 {
             return None;
         }
-        let bytes = self.bytes;
-        self.count -= 1;
-        let [len, rest @ ..] = bytes else {
-            return Some(bytes);
+        let (literals, after) = first_clause(self.bytes);
+        *self = ClauseList {
+            count: self.count - 1,
+            bytes: after,
         };
-        let (literals, after) = rest.split_at(rest.len().min(*len as usize));
-        self.bytes = after;
         Some(literals)
     }
+}
+
+// The literals of the clause that the bytes begin with, cut at the end of the bytes, and what follows it.
+fn first_clause<'a>(bytes: &'a [u8]) -> (&'a [u8], &'a [u8])
+    ensures literals { λ r. ⌜ now (r .0) ≡ clauseAt (now (bytes .entry)) ⌝ }
+    ensures after { λ r. ⌜ now (r .1) ≡ afterClause (now (bytes .entry)) ⌝ }
+{
+    let [len, rest @ ..] = bytes else {
+        return (bytes, bytes);
+    };
+    rest.split_at(rest.len().min(*len as usize))
 }
 
 impl<'a> ClauseList<'a> {

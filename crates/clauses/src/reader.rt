@@ -5,12 +5,26 @@ ghost use lib.ListN.{length, drop};
 ghost use Rattle.std.specs.Results.{Cases};
 ghost use Rattle.std.specs.declared.option.Option.the-variants.{Some};
 ghost use Rattle.faults.specs.Firsts.{unless};
-ghost use Rattle.clauses.specs.Reading.{literalsFault, clauseFault, clausesFault};
-ghost use Rattle.clauses.specs.Read.{ClauseOff, ClausesOff};
+ghost use Rattle.clauses.specs.Reading.{literalFault, literalsFault, clauseFault, clausesFault};
+ghost use Rattle.clauses.specs.Read.{LiteralPassed, ClauseOff, ClausesOff};
 use crate::list::ClauseList;
 use crate::scope::Scope;
 use faults::ClauseFault;
 use system::variable;
+
+// Looks at the literal at index at, which is to be about a variable from low up: from where on the next is to be.
+fn check_literal(scope: Scope, at: usize, low: u8, literal: u8) -> Result<u8, ClauseFault>
+    ensures { λ r. ⌜ Cases r (λ next. LiteralPassed scope at low literal next) (λ f. literalFault scope at low literal ≡ Some f) ⌝ }
+{
+    let v = variable(literal);
+    if !scope.has(v) {
+        return Err(ClauseFault::Variable(at));
+    }
+    if v < low {
+        return Err(ClauseFault::Order(at));
+    }
+    Ok(v + 1)
+}
 
 // Looks through the literals of a clause, the first of which has index at.
 fn check_literals(scope: Scope, at: usize, literals: &[u8]) -> Result<(), ClauseFault>
@@ -19,14 +33,7 @@ fn check_literals(scope: Scope, at: usize, literals: &[u8]) -> Result<(), Clause
 {
     let mut low = 0;
     for (i, literal) in literals.iter().enumerate() {
-        let v = variable(*literal);
-        if !scope.has(v) {
-            return Err(ClauseFault::Variable(at + i));
-        }
-        if v < low {
-            return Err(ClauseFault::Order(at + i));
-        }
-        low = v + 1;
+        low = check_literal(scope, at + i, low, *literal)?;
     }
     Ok(())
 }

@@ -33,7 +33,7 @@ pub impl From<ClauseFault> for CaseFault as CaseFaultFromClause {
     ghost converts = { λ x y. y ≡ InClause x };
 
     fn from(fault: ClauseFault) -> CaseFault {
-        CaseFault::InClause(fault)
+        Self::InClause(fault)
     }
 }
 
@@ -41,7 +41,7 @@ pub impl From<AllocError> for CaseFault as CaseFaultFromAlloc {
     ghost converts = { λ _ y. y ≡ NoMemory };
 
     fn from(_error: AllocError) -> CaseFault {
-        CaseFault::NoMemory
+        Self::NoMemory
     }
 }
 

@@ -19,7 +19,7 @@ pub impl From<CaseFault> for WorkFault as WorkFaultFromCase {
     ghost converts = { λ x y. y ≡ InCase x };
 
     fn from(fault: CaseFault) -> WorkFault {
-        WorkFault::InCase(fault)
+        Self::InCase(fault)
     }
 }
 
@@ -27,7 +27,7 @@ pub impl From<ClauseFault> for WorkFault as WorkFaultFromClause {
     ghost converts = { λ x y. y ≡ InCandidates x };
 
     fn from(fault: ClauseFault) -> WorkFault {
-        WorkFault::InCandidates(fault)
+        Self::InCandidates(fault)
     }
 }
 

@@ -16,4 +16,4 @@ sub-result c =
 pub returns : need.returns
 returns c =
     let p = c .in-Continue-after .ensures tt in
-    record { sound = rw (eq-eqb (c .args .stated) (c .args .at) (c .if-stated-at .left), p .sound); ends = rw (p .back) }
+    record { sound = rw (eq-eqb (c .args .stated .at) (c .args .at) (c .if-stated-at .left), p .sound); ends = rw (p .back) }

@@ -1,11 +1,11 @@
-use mathlib.Core.List.{List, [], _∷_}
-use mathlib.Core.Path.{_≡_, refl, sym, ap, ap₂, subst, _∙_}
-use Prim.Native.Nat.{ℕ, _+_, _≤_}
+use mathlib.Core.List.{[]}
+use mathlib.Core.Path.{_≡_, refl, sym, ap, ap₂, _∙_}
+use Prim.Native.Nat.{_+_}
 use native.Mathlib.Omega.{arith}
 use lib.ListN.{length, take, drop, getD}
 use Rattle.clauses.specs.Spelling.{spellClauses}
 use Rattle.clauses.specs.Lists.{clausesOf}
-use Rattle.clauses.proofs.Walks.{Next, walk-next, walk-end}
+use Rattle.clauses.proofs.Walks.{walk-next, walk-end}
 use Rattle.cases.specs.Meaning.{systemOf}
 use Rattle.cases.specs.Answers.{listOf, beginning}
 use Rattle.cases.proofs.Promises.{case-admitted}
