@@ -1,5 +1,2 @@
-pub mod Ends
-pub mod Parts
-pub mod Law
 pub mod Promises
 pub mod Places

@@ -10,11 +10,11 @@ use Rattle.faults.specs.declared.case.ListName.{ListName}
 use Rattle.faults.specs.declared.case.ListName.the-variants.{Start, Step, Safety}
 use Rattle.clauses.specs.Spelling.{spellClauses}
 use Rattle.clauses.proofs.Spelled.{spell-append}
-use Rattle.cases.specs.Spelling.{stepAt, safetyAt, spell, Admitted}
-use Rattle.cases.specs.Cases.{field, stepPlace, safetyPlace, systemIn}
-use Rattle.cases.specs.Sound.{Sound}
+use Rattle.layout.specs.Spelling.{stepAt, safetyAt, spell, Admitted}
+use Rattle.layout.specs.Reading.{field, stepPlace, safetyPlace, systemIn}
+use Rattle.layout.specs.Sound.{Sound}
 use Rattle.cases.specs.Answers.{listOf, beginning}
-use Rattle.cases.proofs.Law.{spelled-length, lengths}
+use Rattle.layout.proofs.Law.{spelled-length, lengths}
 
 -- what the header says of the lists
 module _ (bs : List ℕ) (s : Sound bs) where

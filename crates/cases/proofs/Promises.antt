@@ -7,11 +7,11 @@ use lib.ListN.{getD}
 use Rattle.std.specs.declared.result.Result.{Result}
 use Rattle.system.specs.Systems.{System}
 use Rattle.faults.specs.declared.case.CaseFault.{CaseFault}
-use Rattle.cases.specs.Spelling.{Admitted}
-use Rattle.cases.specs.Sound.{Sound}
+use Rattle.layout.specs.Spelling.{Admitted}
+use Rattle.layout.specs.Sound.{Sound}
 use Rattle.cases.specs.Meaning.{bytesOf, systemOf, Read, ReadAsSpelled}
 use Rattle.cases.specs.declared.case.Case.{Case}
-use Rattle.cases.proofs.Law.{read-as-spelled, accepted-sound, sound-admitted}
+use Rattle.layout.proofs.Law.{read-as-spelled, accepted-sound, sound-admitted}
 
 -- the law of reading follows from its value
 pub read-law : (bs : List ℕ) → ((i : ℕ) → getD bs i 0 < 256) → (r : Result System CaseFault) → Read bs r → ReadAsSpelled bs r

@@ -12,7 +12,7 @@ use Rattle.faults.specs.declared.case.ListName.the-variants.{Start, Step, Safet
 use Rattle.faults.specs.declared.work.WorkFault.{WorkFault}
 use Rattle.faults.specs.declared.work.WorkFault.the-variants.{NoSuchClause}
 use Rattle.clauses.specs.Spelling.{spellClauses}
-use Rattle.cases.specs.Spelling.{stepAt, safetyAt, spell}
+use Rattle.layout.specs.Spelling.{stepAt, safetyAt, spell}
 use Rattle.cases.specs.declared.answers.Clause.{Clause}
 
 abbrev pub listOf : ListName → System → List (List ℕ)

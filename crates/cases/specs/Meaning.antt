@@ -10,8 +10,8 @@ use Rattle.std.specs.declared.result.Result.the-variants.{Ok, Err}
 use Rattle.system.specs.Systems.{System}
 use Rattle.faults.specs.declared.case.CaseFault.{CaseFault}
 use Rattle.faults.specs.declared.case.CaseFault.the-variants.{NoMemory}
-use Rattle.cases.specs.Spelling.{spell, Admitted}
-use Rattle.cases.specs.Cases.{systemIn, accepted, readCase}
+use Rattle.layout.specs.Spelling.{spell, Admitted}
+use Rattle.layout.specs.Reading.{systemIn, accepted, readCase}
 use Rattle.cases.specs.declared.case.Case.{Case}
 
 -- the bytes that a case keeps

@@ -2,8 +2,8 @@
 ghost use mathlib.Core.Bool.{true};
 ghost use mathlib.Core.Path.{_≡_};
 ghost use Rattle.std.specs.Of.Vec.{vec-items};
-ghost use Rattle.cases.specs.Cases.{accepted, systemIn};
-ghost use Rattle.cases.specs.Spelling.{spell};
+ghost use Rattle.layout.specs.Reading.{accepted, systemIn};
+ghost use Rattle.layout.specs.Spelling.{spell};
 
 // The bytes of a system: reading found no fault in them, and they spell it.
 #[derive(Drop)]

@@ -1,9 +1,9 @@
 // Reading a case.
 ghost use Rattle.cases.specs.Meaning.{meant, Read, ReadAsSpelled};
 use crate::case::Case;
-use crate::sections::check_case;
 use faults::CaseFault;
 use faults::CaseFaultFromAlloc;
+use layout::check_case;
 use std::alloc::Global;
 
 impl Case {

@@ -1,5 +1,8 @@
 // The variables that the clauses of a list may be about.
 ghost use mathlib.Core.Path.{_≡_};
+ghost use mathlib.Core.Bool.{_&&_};
+ghost use Prim.Native.Nat.{_-_};
+ghost use lib.Dec.{leb, ltb};
 ghost use Rattle.clauses.specs.Reading.{inScope};
 
 // The relays before a step (how many there are), or all the variables of a step: relays before it, relays after it,
@@ -18,7 +21,14 @@ impl Scope {
         let v = u32::from(variable);
         match self {
             Scope::Before(n) => v < *n,
-            Scope::Across(n, m) => v < *n || (v >= 32 && v - 32 < *n) || (v >= 64 && v - 64 < *m),
+            Scope::Across(n, m) => v < *n || lies(v, 32, *n) || lies(v, 64, *m),
         }
     }
+}
+
+// Whether a variable is one of so many from the first on.
+fn lies(variable: u32, first: u32, count: u32) -> bool
+    ensures { λ r. ⌜ r ≡ (leb first variable && ltb (variable - first) count) ⌝ }
+{
+    variable >= first && variable - first < count
 }

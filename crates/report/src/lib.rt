@@ -3,7 +3,7 @@ ghost use mathlib.Core.Path.{_≡_};
 ghost use Rattle.std.specs.Of.String.{string-bytes};
 ghost use Rattle.std.specs.Vec.{made};
 ghost use Rattle.faults.specs.Refusals.{workRefusal};
-ghost use Rattle.cases.specs.Cases.{readCase};
+ghost use Rattle.layout.specs.Reading.{readCase};
 ghost use Rattle.cases.specs.Meaning.{systemOf};
 ghost use Rattle.report.specs.Lines.{openLine, refusalLine, reportLine};
 use cases::Case;

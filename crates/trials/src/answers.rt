@@ -35,20 +35,21 @@ fn last(literals: &[u8]) -> usize {
     }
 }
 
-fn wrong_rows(case: &Case) -> usize {
-    let mut wrong = 0usize;
-    for (list, number, expected) in ROWS {
-        if answered(case, list, number) != expected {
-            wrong = wrong.saturating_add(1);
+fn first_wrong(case: &Case) -> usize {
+    for (row, (list, number, expected)) in ROWS.iter().enumerate() {
+        let [a, b, c] = answered(case, *list, *number);
+        let [x, y, z] = *expected;
+        if a != x || b != y || c != z {
+            return row;
         }
     }
-    wrong
+    ROWS.len()
 }
 
 #[test]
 fn clauses_by_number(rt: LibcRuntime) -> Result<(), Fail> {
     match Case::read(rt.alloc(), &TWO) {
-        Ok(case) => check_eq(wrong_rows(&case), 0),
+        Ok(case) => check_eq(first_wrong(&case), ROWS.len()),
         Err(_) => Err(Fail::new("refused")),
     }
 }

@@ -1,59 +1,72 @@
-// Lists of candidates.
+// Lists of candidates over two relays.
 use clauses::read_candidates;
-use std::alloc::AllocError;
-use std::alloc::Global;
 use std::test::*;
 
-// How many candidates the bytes are over two relays, or layer, number and place of the refusal.
-fn candidates(bytes: &[u8]) -> Result<usize, [usize; 3]> {
+// The bytes, how many of them are read, and layer, number and place of the refusal; or two zeros and how many candidates
+// there are.
+const SMALL_ROWS: [([u8; 7], usize, [usize; 3]); 9] = [
+    ([0, 0, 0, 0, 0, 0, 0], 0, [0, 0, 0]),
+    ([0, 0, 0, 0, 0, 0, 0], 1, [0, 0, 1]),
+    ([1, 1, 1, 3, 2, 0, 2], 7, [0, 0, 3]),
+    ([1, 1, 1, 4, 0, 0, 0], 7, [1, 18, 3]),
+    ([1, 1, 1, 0x40, 0, 0, 0], 7, [1, 18, 3]),
+    ([2, 2, 0, 0, 0, 0, 0], 7, [1, 19, 2]),
+    ([2, 2, 3, 0, 0, 0, 0], 7, [1, 19, 2]),
+    ([0, 3, 0, 2, 0, 0, 0], 4, [1, 17, 1]),
+    ([1, 1, 1, 3, 2, 0, 2], 6, [1, 17, 4]),
+];
+
+// How many bytes, all 0 and so each an empty clause but for two of them: where these stand and what they are. 512
+// candidates are taken and a 513th is not, and a fault inside any clause comes first.
+const LONG_ROWS: [(usize, usize, [u8; 2], [usize; 3]); 6] = [
+    (512, 0, [0, 0], [0, 0, 512]),
+    (513, 511, [1, 2], [0, 0, 512]),
+    (513, 0, [0, 0], [3, 21, 512]),
+    (602, 600, [0, 0], [3, 21, 512]),
+    (602, 600, [1, 4], [1, 18, 601]),
+    (514, 513, [1, 0], [1, 17, 513]),
+];
+
+fn says(bytes: &[u8], expected: [usize; 3]) -> bool {
+    let [l, n, p] = expected;
     match read_candidates(2, bytes) {
-        Ok(list) => Ok(list.len()),
-        Err(fault) => Err([
-            fault.layer() as usize,
-            fault.number() as usize,
-            fault.place(),
-        ]),
+        Ok(list) => l == 0 && n == 0 && p == list.len(),
+        Err(fault) => l == fault.layer() as usize
+            && n == fault.number() as usize
+            && p == fault.place(),
     }
 }
 
-// So many empty clauses, and the bytes after them.
-fn empties(heap: Global, count: usize, then: &[u8]) -> Result<Vec<u8>, AllocError> {
-    let mut bytes = vec![in heap; 0u8; count]?;
-    bytes.extend_from_slice(then)?;
-    Ok(bytes)
+fn first_wrong_small() -> usize {
+    for (row, (bytes, len, expected)) in SMALL_ROWS.iter().enumerate() {
+        if *len > 7 || !says(&bytes[0..*len], *expected) {
+            return row;
+        }
+    }
+    SMALL_ROWS.len()
+}
+
+fn first_wrong_long() -> usize {
+    for (row, (len, at, values, expected)) in LONG_ROWS.iter().enumerate() {
+        let mut bytes = [0; 602];
+        let [first, second] = *values;
+        if *at < 601 {
+            bytes[*at] = first;
+            bytes[*at + 1] = second;
+        }
+        if *len > 602 || !says(&bytes[0..*len], *expected) {
+            return row;
+        }
+    }
+    LONG_ROWS.len()
 }
 
 #[test]
 fn small_lists() -> Result<(), Fail> {
-    check_eq(candidates(&[]), Ok(0))?;
-    check_eq(candidates(&[0]), Ok(1))?;
-    check_eq(candidates(&[1, 1, 1, 3, 2, 0, 2]), Ok(3))?;
-    check_eq(candidates(&[1, 1, 1, 4]), Err([1, 18, 3]))?;
-    check_eq(candidates(&[1, 1, 1, 0x40]), Err([1, 18, 3]))?;
-    check_eq(candidates(&[2, 2, 0]), Err([1, 19, 2]))?;
-    check_eq(candidates(&[2, 2, 3]), Err([1, 19, 2]))?;
-    check_eq(candidates(&[0, 3, 0, 2]), Err([1, 17, 1]))
+    check_eq(first_wrong_small(), SMALL_ROWS.len())
 }
 
-// 512 are taken and a 513th is not; a fault inside any clause comes first.
 #[test]
-fn the_most(rt: LibcRuntime) -> Result<(), Fail> {
-    let heap = rt.alloc();
-    check_eq(candidates(empties(heap, 511, &[1, 2])?.as_slice()), Ok(512))?;
-    check_eq(
-        candidates(empties(heap, 512, &[1, 2])?.as_slice()),
-        Err([3, 21, 512]),
-    )?;
-    check_eq(
-        candidates(empties(heap, 600, &[])?.as_slice()),
-        Err([3, 21, 512]),
-    )?;
-    check_eq(
-        candidates(empties(heap, 600, &[1, 4])?.as_slice()),
-        Err([1, 18, 601]),
-    )?;
-    check_eq(
-        candidates(empties(heap, 513, &[1])?.as_slice()),
-        Err([1, 17, 513]),
-    )
+fn long_lists() -> Result<(), Fail> {
+    check_eq(first_wrong_long(), LONG_ROWS.len())
 }

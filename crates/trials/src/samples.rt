@@ -1,6 +1,5 @@
 // The two cases that the tables change, and what reading says of bytes.
 use cases::Case;
-use std::alloc::AllocError;
 use std::alloc::Global;
 
 // Layer, number and place of a refusal; three zeros where the bytes are accepted.
@@ -85,7 +84,14 @@ pub const THREE: [u8; 32] = [
     4,
 ];
 
-pub fn said(heap: Global, bytes: &[u8]) -> Said {
+// Whether reading says of the bytes what is expected.
+pub fn says(heap: Global, bytes: &[u8], expected: Said) -> bool {
+    let [layer, number, place] = said(heap, bytes);
+    let [l, n, p] = expected;
+    layer == l && number == n && place == p
+}
+
+fn said(heap: Global, bytes: &[u8]) -> Said {
     match Case::read(heap, bytes) {
         Ok(_) => ACCEPTED,
         Err(fault) => [
@@ -93,32 +99,5 @@ pub fn said(heap: Global, bytes: &[u8]) -> Said {
             fault.number() as usize,
             fault.place(),
         ],
-    }
-}
-
-// The bytes with one of them changed.
-pub fn with_byte(heap: Global, bytes: &[u8], at: usize, value: u8) -> Result<Vec<u8>, AllocError> {
-    let mut changed = Vec::from_slice(heap, bytes)?;
-    set(&mut changed, at, value);
-    Ok(changed)
-}
-
-// The bytes with a number of the header changed.
-pub fn with_field(
-    heap: Global,
-    bytes: &[u8],
-    at: usize,
-    value: u16,
-) -> Result<Vec<u8>, AllocError> {
-    let [low, high] = value.to_le_bytes();
-    let mut changed = Vec::from_slice(heap, bytes)?;
-    set(&mut changed, at, low);
-    set(&mut changed, at.saturating_add(1), high);
-    Ok(changed)
-}
-
-fn set(bytes: &mut Vec<u8>, at: usize, value: u8) {
-    if let Some(byte) = bytes.get_mut(at) {
-        *byte = value;
     }
 }

@@ -12,6 +12,11 @@ loop-holds c = midway-start (c .args .scope) (c .args .count) (c .args .at) (c .
 pub sub-section : need.sub-section
 sub-section c = midway-short (c .args .scope) (c .args .count) (c .args .at) (c .args .section .now) (c .loop .counter) (c .loop .rest .now) (c .loop .inv)
 
+pub add-at : need.add-at
+add-at c =
+    let h = midway-short (c .args .scope) (c .args .count) (c .args .at) (c .args .section .now) (c .loop .counter) (c .loop .rest .now) (c .loop .inv) in
+    omega arith
+
 pub take-clause-requires : need.take-clause-requires
 take-clause-requires c κs =
     omega (arith, midway-short (c .args .scope) (c .args .count) (c .args .at) (c .args .section .now) (c .loop .counter) (c .loop .rest .now) (c .loop .inv))
@@ -28,6 +33,9 @@ loop-again c =
 
 pub sub-section-2 : need.sub-section-2
 sub-section-2 c = midway-short (c .args .scope) (c .args .count) (c .args .at) (c .args .section .now) (c .loop .counter) (c .loop .rest .now) (c .loop .inv)
+
+pub split-at-requires : need.split-at-requires
+split-at-requires c κs = omega arith
 
 pub returns : need.returns
 returns c =

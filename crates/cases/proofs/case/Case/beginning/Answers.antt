@@ -1,5 +1,5 @@
 use mathlib.Core.Path.{sym, ap₂, _∙_}
-use Rattle.cases.specs.Cases.{systemIn}
+use Rattle.layout.specs.Reading.{systemIn}
 use Rattle.cases.specs.Answers.{beginning}
 use Rattle.cases.specs.Meaning.{systemOf}
 use Rattle.cases.proofs.Places.{step-begins, safety-begins}

@@ -1,5 +1,5 @@
 use mathlib.Core.Path.{sym, subst}
-use Rattle.cases.specs.Sound.{Sound}
+use Rattle.layout.specs.Sound.{Sound}
 use Rattle.cases.proofs.Promises.{case-sound}
 use Rattle.cases.proofs.case.Case.content.Needs as need
 

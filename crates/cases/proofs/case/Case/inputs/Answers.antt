@@ -1,5 +1,5 @@
 use mathlib.Core.Path.{ap, _∙_}
-use Rattle.cases.specs.Cases.{field}
+use Rattle.layout.specs.Reading.{field}
 use Rattle.cases.specs.Meaning.{systemOf}
 use Rattle.cases.proofs.case.Case.inputs.Needs as need
 

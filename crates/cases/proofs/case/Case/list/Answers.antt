@@ -2,7 +2,7 @@ use mathlib.Core.Path.{sym, ap, ap₂, _∙_}
 use Prim.Native.Nat.{_-_}
 use lib.ListN.{length, take, drop}
 use Rattle.clauses.specs.Spelling.{clausesIn}
-use Rattle.cases.specs.Cases.{systemIn}
+use Rattle.layout.specs.Reading.{systemIn}
 use Rattle.cases.specs.Answers.{listOf}
 use Rattle.cases.specs.Meaning.{systemOf}
 use Rattle.std.proofs.shelf.Lists.{take-rest}

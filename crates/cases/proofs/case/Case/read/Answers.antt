@@ -8,11 +8,11 @@ use Rattle.std.specs.Of.Vec.{vec-items}
 use Rattle.system.specs.Systems.{System}
 use Rattle.faults.specs.declared.case.CaseFault.{CaseFault}
 use Rattle.faults.proofs.Firsts.{unless-err, unless-ok}
-use Rattle.cases.specs.Cases.{caseFault, accepted, systemIn}
+use Rattle.layout.specs.Reading.{caseFault, accepted, systemIn}
 use Rattle.cases.specs.Meaning.{systemOf, meant, Read}
-use Rattle.cases.specs.Spelling.{spell}
-use Rattle.cases.proofs.Parts.{sound-parts}
-use Rattle.cases.proofs.Law.{sound-spelled, none-accepted, none-read, fault-read}
+use Rattle.layout.specs.Spelling.{spell}
+use Rattle.layout.proofs.Parts.{sound-parts}
+use Rattle.layout.proofs.Law.{sound-spelled, none-accepted, none-read, fault-read}
 use Rattle.cases.proofs.Promises.{read-law}
 use Rattle.cases.proofs.case.Case.read.Needs as need
 
