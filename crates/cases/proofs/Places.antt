@@ -8,8 +8,8 @@ use Rattle.std.proofs.shelf.Lists.{append-assoc, append-nil, length-append, tak
 use Rattle.system.specs.Systems.{System}
 use Rattle.faults.specs.declared.case.ListName.{ListName}
 use Rattle.faults.specs.declared.case.ListName.the-variants.{Start, Step, Safety}
-use Rattle.clauses.specs.Spelling.{spellClauses}
-use Rattle.clauses.proofs.Spelled.{spell-append}
+use Rattle.lists.specs.Spelling.{spellClauses}
+use Rattle.lists.proofs.Spelled.{spell-append}
 use Rattle.layout.specs.Spelling.{stepAt, safetyAt, spell, Admitted}
 use Rattle.layout.specs.Reading.{field, stepPlace, safetyPlace, systemIn}
 use Rattle.layout.specs.Sound.{Sound}

@@ -11,7 +11,7 @@ use Rattle.faults.specs.declared.case.ListName.{ListName}
 use Rattle.faults.specs.declared.case.ListName.the-variants.{Start, Step, Safety}
 use Rattle.faults.specs.declared.work.WorkFault.{WorkFault}
 use Rattle.faults.specs.declared.work.WorkFault.the-variants.{NoSuchClause}
-use Rattle.clauses.specs.Spelling.{spellClauses}
+use Rattle.lists.specs.Spelling.{spellClauses}
 use Rattle.layout.specs.Spelling.{stepAt, safetyAt, spell}
 use Rattle.cases.specs.declared.answers.Clause.{Clause}
 

@@ -1,17 +1,17 @@
 // What a case answers: its bytes, relays, inputs and lists, and a clause of a list by its number.
 ghost use mathlib.Core.Path.{_≡_};
-ghost use Rattle.clauses.specs.Lists.{clausesOf};
+ghost use Rattle.lists.specs.Lists.{clausesOf};
 ghost use Rattle.layout.specs.Spelling.{spell, Admitted};
 ghost use Rattle.cases.specs.Meaning.{bytesOf, systemOf};
 ghost use Rattle.layout.specs.Sound.{Sound};
 ghost use Rattle.cases.specs.Answers.{listOf, beginning, Numbered};
 use crate::case::Case;
-use clauses::ClauseList;
-use clauses::ClauseListIterator;
 use faults::ListName;
 use faults::WorkFault;
 use layout::HEADER;
 use layout::read_field;
+use lists::ClauseList;
+use lists::ClauseListIterator;
 
 // The literals of a clause as they lie in the bytes, and the index of the first of them; of the empty clause, the index
 // of the byte after its length.

@@ -14,12 +14,12 @@ use Rattle.faults.specs.Firsts.{orElse, inside, unless}
 use Rattle.faults.specs.declared.work.WorkFault.{WorkFault}
 use Rattle.faults.specs.declared.work.WorkFault.the-variants.{InCandidates}
 use Rattle.faults.proofs.Firsts.{or-none, inside-none, unmet-none, none-unmet, unless-value}
-use Rattle.clauses.specs.Spelling.{afterClauses, clausesIn, spellClauses}
+use Rattle.lists.specs.Spelling.{afterClauses, clausesIn, spellClauses}
 use Rattle.clauses.specs.Reading.{clausesFault}
 use Rattle.clauses.specs.Candidates.{countWithin, countIn, tooMany, candidatesFault, readCandidates, gathered, CandidateList, ReadAsSpelled}
-use Rattle.clauses.specs.declared.list.ClauseList.{ClauseList}
+use Rattle.lists.specs.declared.list.ClauseList.{ClauseList}
 use Rattle.clauses.specs.declared.scope.Scope.the-variants.{Before}
-use Rattle.clauses.proofs.Spelled.{clauses-length, clauses-spelled}
+use Rattle.lists.proofs.Spelled.{clauses-length, clauses-spelled}
 use Rattle.clauses.proofs.Wellformed.{clauses-formed, formed-clauses, before-all, all-before}
 use Rattle.clauses.proofs.Gathered.{count-some}
 

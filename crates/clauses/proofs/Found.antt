@@ -9,11 +9,11 @@ use Rattle.std.proofs.shelf.Tests.{le-leb, lt-leb}
 use Rattle.std.proofs.shelf.Lists.{at-drop-more, take-rest, take-append-drop, append-nil, append-assoc, length-append, take-at, drop-at}
 use Rattle.std.specs.declared.option.Option.the-variants.{Some, None}
 use Rattle.system.specs.Literals.{variableOf}
-use Rattle.clauses.specs.Spelling.{clauseAt, afterClause, clausesIn, afterClauses, spellClauses}
+use Rattle.lists.specs.Spelling.{clauseAt, afterClause, clausesIn, afterClauses, spellClauses}
 use Rattle.faults.specs.Firsts.{unmet, orElse}
 use Rattle.clauses.specs.Reading.{literalFault, literalsFault, clauseFault, clausesFault}
 use Rattle.clauses.specs.Read.{LiteralPassed, ClauseOff}
-use Rattle.clauses.proofs.Spelled.{after-more, clauses-more, clauses-length, spell-append, clauses-spelled}
+use Rattle.lists.proofs.Spelled.{after-more, clauses-more, clauses-length, spell-append, clauses-spelled}
 use Rattle.faults.specs.declared.clause.ClauseFault.{ClauseFault}
 use Rattle.faults.specs.declared.clause.ClauseFault.the-variants.{PastEnd}
 use Rattle.clauses.specs.declared.scope.Scope.{Scope}

@@ -9,7 +9,7 @@ use Rattle.std.proofs.shelf.Lists.{length-append}
 use Rattle.std.proofs.shelf.Tests.{le-leb, lt-leb, cases-eq}
 use Rattle.std.specs.declared.option.Option.the-variants.{Some, None}
 use Rattle.std.specs.declared.result.Result.the-variants.{Ok, Err}
-use Rattle.clauses.specs.Spelling.{afterClause, afterClauses, clausesIn}
+use Rattle.lists.specs.Spelling.{afterClause, afterClauses, clausesIn}
 use Rattle.faults.specs.Firsts.{unmet, orElse, inside, unless}
 use Rattle.clauses.specs.Reading.{clauseFault, clausesFault}
 use Rattle.clauses.specs.Candidates.{countWithin, countIn, tooMany, readCandidates}

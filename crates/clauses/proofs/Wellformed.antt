@@ -14,7 +14,7 @@ use Rattle.std.proofs.shelf.Lists.{take-append-drop, append-assoc, take-at, dro
 use Rattle.system.specs.Literals.{variableOf}
 use Rattle.system.specs.Systems.{OverRelays, OverVariables, Rising}
 use Rattle.system.proofs.Truth.{T-of, T-true}
-use Rattle.clauses.specs.Spelling.{clausesIn, afterClauses, spellClauses}
+use Rattle.lists.specs.Spelling.{clausesIn, afterClauses, spellClauses}
 use Rattle.faults.specs.Firsts.{unmet, orElse}
 use Rattle.faults.proofs.Firsts.{some-clash, or-none, unmet-none, none-unmet}
 use Rattle.clauses.specs.Reading.{inScope, literalFault, literalsFault, clauseFault, clausesFault}

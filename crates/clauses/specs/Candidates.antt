@@ -13,10 +13,10 @@ use Rattle.system.specs.Systems.{OverRelays, Rising}
 use Rattle.faults.specs.Firsts.{unmet, orElse, inside, unless}
 use Rattle.faults.specs.declared.work.WorkFault.{WorkFault}
 use Rattle.faults.specs.declared.work.WorkFault.the-variants.{InCandidates, TooManyCandidates}
-use Rattle.clauses.specs.Spelling.{clausesIn, afterClauses, spellClauses}
+use Rattle.lists.specs.Spelling.{clausesIn, afterClauses, spellClauses}
 use Rattle.clauses.specs.Reading.{clausesFault}
-use Rattle.clauses.specs.Lists.{clausesOf}
-use Rattle.clauses.specs.declared.list.ClauseList.{ClauseList}
+use Rattle.lists.specs.Lists.{clausesOf}
+use Rattle.lists.specs.declared.list.ClauseList.{ClauseList}
 use Rattle.clauses.specs.declared.scope.Scope.the-variants.{Before}
 
 -- how many clauses begin before the end of the bytes; each takes a byte at least, so that as many turns as bytes suffice

@@ -1,5 +1,3 @@
-pub mod Spelling
-pub mod Lists
 pub mod Reading
 pub mod Read
 pub mod Candidates

@@ -5,11 +5,11 @@ use Prim.Native.Nat.{ℕ, _+_}
 use lib.ListN.{length}
 use Rattle.std.specs.declared.option.Option.the-variants.{None}
 use Rattle.system.specs.Literals.{variableOf}
-use Rattle.clauses.specs.Spelling.{clauseAt, afterClause, clausesIn, afterClauses, spellClauses}
+use Rattle.lists.specs.Spelling.{clauseAt, afterClause, clausesIn, afterClauses, spellClauses}
 use Rattle.clauses.specs.Reading.{literalFault, clauseFault, clausesFault}
-use Rattle.clauses.specs.Lists.{clausesOf}
+use Rattle.lists.specs.Lists.{clausesOf}
 use Rattle.clauses.specs.declared.scope.Scope.{Scope}
-use Rattle.clauses.specs.declared.list.ClauseList.{ClauseList}
+use Rattle.lists.specs.declared.list.ClauseList.{ClauseList}
 
 -- a literal has no fault, and the next is to be about a variable from next up
 pub record LiteralPassed (scope : Scope) (at low l next : ℕ) : Type 0 where

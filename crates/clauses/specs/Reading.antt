@@ -11,7 +11,7 @@ use Rattle.system.specs.Systems.{isVariable}
 use Rattle.faults.specs.Firsts.{unmet, orElse}
 use Rattle.faults.specs.declared.clause.ClauseFault.{ClauseFault}
 use Rattle.faults.specs.declared.clause.ClauseFault.the-variants.{PastEnd, Variable, Order}
-use Rattle.clauses.specs.Spelling.{clauseAt, afterClause}
+use Rattle.lists.specs.Spelling.{clauseAt, afterClause}
 use Rattle.clauses.specs.declared.scope.Scope.{Scope}
 use Rattle.clauses.specs.declared.scope.Scope.the-variants.{Before, Across}
 

@@ -1,11 +1,11 @@
 // Reads a list of candidate clauses: clauses over relays before a step, without a header, up to the end of the bytes.
 ghost use mathlib.Core.Path.{_≡_};
 ghost use Rattle.clauses.specs.Candidates.{gathered, readCandidates, ReadAsSpelled};
-use crate::list::ClauseList;
 use crate::reader::take_clause;
 use crate::scope::Scope;
 use faults::WorkFault;
 use faults::WorkFaultFromClause;
+use lists::ClauseList;
 
 // How many candidates a list has at most.
 pub const MOST_CANDIDATES: usize = 512;

@@ -7,9 +7,9 @@ ghost use Rattle.std.specs.declared.option.Option.the-variants.{Some};
 ghost use Rattle.faults.specs.Firsts.{unless};
 ghost use Rattle.clauses.specs.Reading.{literalFault, literalsFault, clauseFault, clausesFault};
 ghost use Rattle.clauses.specs.Read.{LiteralPassed, ClauseOff, ClausesOff};
-use crate::list::ClauseList;
 use crate::scope::Scope;
 use faults::ClauseFault;
+use lists::ClauseList;
 use system::variable;
 
 // Looks at the literal at index at, which is to be about a variable from low up: from where on the next is to be.

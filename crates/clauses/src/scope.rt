@@ -15,7 +15,7 @@ pub enum Scope {
 
 impl Scope {
     // Whether a clause of the list may be about the variable.
-    pub fn has(&self, variable: u8) -> bool
+    pub(crate) fn has(&self, variable: u8) -> bool
         ensures { λ r. ⌜ r ≡ inScope (now (self .entry)) variable ⌝ }
     {
         let v = u32::from(variable);

@@ -7,8 +7,8 @@ use native.Mathlib.Omega.{arith}
 use lib.ListN.{length, drop, length-drop}
 use Rattle.std.proofs.shelf.Lists.{drop-all, drop-drop}
 use Rattle.std.proofs.shelf.Tests.{cases-lt}
-use Rattle.clauses.specs.Spelling.{afterClauses}
-use Rattle.clauses.proofs.Spelled.{after-drop}
+use Rattle.lists.specs.Spelling.{afterClauses}
+use Rattle.lists.proofs.Spelled.{after-drop}
 use Rattle.layout.specs.Reading.{endOf, stepPlace, safetyPlace, leftPlace}
 
 -- the bytes from the start of each section on, and those left over

@@ -15,14 +15,14 @@ use Rattle.faults.proofs.Firsts.{unless-value}
 use Rattle.std.proofs.shelf.Lists.{drop-more, append-nil, length-append, drop-all}
 use Rattle.system.specs.Systems.{System}
 use Rattle.layout.specs.Spelling.{word, stepAt, safetyAt, spell, Admitted, AcceptedAsSpelled, SpelledOnce}
-use Rattle.clauses.specs.Spelling.{clausesIn, afterClauses, spellClauses}
+use Rattle.lists.specs.Spelling.{clausesIn, afterClauses, spellClauses}
 use Rattle.faults.specs.Firsts.{unless}
 use Rattle.clauses.specs.Reading.{clausesFault}
 use Rattle.layout.specs.Reading.{field, stepPlace, safetyPlace, leftPlace, systemIn, caseFault, accepted, readCase}
 use Rattle.layout.proofs.Ends.{startBytes, stepBytes, safetyBytes, leftBytes, after-section, end-length}
 use Rattle.faults.specs.declared.case.CaseFault.{CaseFault}
 use Rattle.clauses.specs.declared.scope.Scope.the-variants.{Before, Across}
-use Rattle.clauses.proofs.Spelled.{clauses-length, clauses-spelled, after-spelled}
+use Rattle.lists.proofs.Spelled.{clauses-length, clauses-spelled, after-spelled}
 use Rattle.layout.specs.Sound.{Sound}
 use Rattle.layout.proofs.Parts.{sound-parts, parts-sound}
 use Rattle.clauses.proofs.Wellformed.{ClausesFormed, clauses-formed, formed-clauses, before-all, all-before, across-all, all-across}

@@ -13,7 +13,7 @@ use Rattle.faults.specs.declared.case.CaseFault.{CaseFault}
 use Rattle.faults.specs.declared.case.CaseFault.the-variants.{Short, Relays, Inputs, Count, Total, Offset, InClause, LeftOver}
 use Rattle.faults.specs.declared.case.ListName.{ListName}
 use Rattle.faults.specs.declared.case.ListName.the-variants.{Start, Step, Safety}
-use Rattle.clauses.specs.Spelling.{clausesIn, afterClauses}
+use Rattle.lists.specs.Spelling.{clausesIn, afterClauses}
 use Rattle.clauses.specs.Reading.{clausesFault}
 use Rattle.clauses.specs.declared.scope.Scope.{Scope}
 use Rattle.clauses.specs.declared.scope.Scope.the-variants.{Before, Across}

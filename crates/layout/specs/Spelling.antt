@@ -9,7 +9,7 @@ use Rattle.std.specs.declared.result.Result.the-variants.{Ok}
 use Rattle.std.specs.shelf.Lists.{All}
 use Rattle.system.specs.Systems.{System, OverRelays, OverVariables, Rising}
 use Rattle.faults.specs.declared.case.CaseFault.{CaseFault}
-use Rattle.clauses.specs.Spelling.{spellClauses}
+use Rattle.lists.specs.Spelling.{spellClauses}
 
 -- a 16-bit number, low byte first
 abbrev pub word : ℕ → List ℕ

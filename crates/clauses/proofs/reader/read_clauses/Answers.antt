@@ -7,7 +7,7 @@ use Rattle.std.specs.Results.{Cases}
 use Rattle.std.specs.declared.option.Option.the-variants.{Some}
 use Rattle.clauses.specs.Reading.{clausesFault}
 use Rattle.clauses.specs.Read.{ClausesOff}
-use Rattle.clauses.proofs.Spelled.{drop-min}
+use Rattle.lists.proofs.Spelled.{drop-min}
 use Rattle.clauses.proofs.reader.read_clauses.Needs as need
 
 pub returns : need.returns

@@ -10,7 +10,7 @@ use Rattle.faults.specs.Firsts.{unless}
 use Rattle.clauses.specs.Reading.{literalsFault, clauseFault}
 use Rattle.faults.specs.declared.clause.ClauseFault.{ClauseFault}
 use Rattle.std.proofs.shelf.Results.{err-from-errBy}
-use Rattle.clauses.proofs.Spelled.{clause-front, clause-back}
+use Rattle.lists.proofs.Spelled.{clause-front, clause-back}
 use Rattle.clauses.proofs.Found.{clause-none, clause-past, clause-inside, clause-whole}
 use Rattle.faults.proofs.Firsts.{unless-err, unless-ok}
 use Rattle.clauses.proofs.reader.take_clause.Needs as need

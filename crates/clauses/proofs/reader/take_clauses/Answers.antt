@@ -2,7 +2,7 @@ use mathlib.Core.Path.{_≡_, sym, ap, ap₂, _∙_}
 use native.Mathlib.Omega.{arith}
 use Rattle.std.proofs.shelf.Results.{err-from-errBy}
 use mathlib.Core.List.{_++_}
-use Rattle.clauses.specs.Spelling.{clausesIn, afterClauses, spellClauses}
+use Rattle.lists.specs.Spelling.{clausesIn, afterClauses, spellClauses}
 use Rattle.clauses.proofs.Found.{midway-start, midway-short, midway-fault, midway-on, midway-end, midway-listed, midway-left}
 use Rattle.clauses.proofs.reader.take_clauses.Needs as need
 

@@ -3,8 +3,8 @@ use native.Mathlib.Omega.{arith}
 use lib.ListN.{length, length-drop}
 use Rattle.std.proofs.shelf.Lists.{length-append}
 use Rattle.std.proofs.shelf.Tests.{eq-eqb}
-use Rattle.clauses.specs.Spelling.{spellClauses}
-use Rattle.clauses.specs.Lists.{clausesOf}
+use Rattle.lists.specs.Spelling.{spellClauses}
+use Rattle.lists.specs.Lists.{clausesOf}
 use Rattle.layout.proofs.sections.check_section.Needs as need
 
 pub sub-result : need.sub-result

@@ -3,9 +3,9 @@ use mathlib.Core.Path.{_≡_, refl, sym, ap, ap₂, _∙_}
 use Prim.Native.Nat.{_+_}
 use native.Mathlib.Omega.{arith}
 use lib.ListN.{length, take, drop, getD}
-use Rattle.clauses.specs.Spelling.{spellClauses}
-use Rattle.clauses.specs.Lists.{clausesOf}
-use Rattle.clauses.proofs.Walks.{walk-next, walk-end}
+use Rattle.lists.specs.Spelling.{spellClauses}
+use Rattle.lists.specs.Lists.{clausesOf}
+use Rattle.lists.proofs.Walks.{walk-next, walk-end}
 use Rattle.cases.specs.Meaning.{systemOf}
 use Rattle.cases.specs.Answers.{listOf, beginning}
 use Rattle.cases.proofs.Promises.{case-admitted}

@@ -1,8 +1,8 @@
 use mathlib.Core.Path.{_≡_}
 use Prim.Native.Nat.{_+_, _≤_}
 use lib.ListN.{length, take, drop}
-use Rattle.clauses.specs.Spelling.{spellClauses}
-use Rattle.clauses.specs.Lists.{clausesOf}
+use Rattle.lists.specs.Spelling.{spellClauses}
+use Rattle.lists.specs.Lists.{clausesOf}
 use Rattle.cases.proofs.case.Case.clause.Given as given
 
 -- some clauses have been passed, and the others are left

@@ -1,7 +1,7 @@
 use mathlib.Core.Path.{sym, ap, ap₂, _∙_}
 use Prim.Native.Nat.{_-_}
 use lib.ListN.{length, take, drop}
-use Rattle.clauses.specs.Spelling.{clausesIn}
+use Rattle.lists.specs.Spelling.{clausesIn}
 use Rattle.layout.specs.Reading.{systemIn}
 use Rattle.cases.specs.Answers.{listOf}
 use Rattle.cases.specs.Meaning.{systemOf}

@@ -8,7 +8,7 @@ use Rattle.std.proofs.shelf.Tests.{cases-lt}
 use Rattle.std.proofs.shelf.Lists.{take-rest, take-all, drop-all, append-assoc, take-at, drop-at, drop-drop}
 use mathlib.Core.Logic.{inl, inr}
 use Rattle.system.specs.Literals.{size}
-use Rattle.clauses.specs.Spelling.{clauseAt, afterClause, clausesIn, afterClauses, spellClauses}
+use Rattle.lists.specs.Spelling.{clauseAt, afterClause, clausesIn, afterClauses, spellClauses}
 
 -- a clause as code takes it off the front, cut at the end
 pub clause-front : (bs : List ℕ) → 0 < length bs → take (getD bs 0 0) (take (length bs - 1) (drop 1 bs)) ≡ clauseAt bs

@@ -1,8 +1,8 @@
 use mathlib.Core.Path.{_≡_}
 use Prim.Native.Nat.{_+_}
 use Rattle.system.specs.Literals.{size}
-use Rattle.clauses.specs.Lists.{clausesOf}
-use Rattle.clauses.proofs.list.ClauseList.literals.Given as given
+use Rattle.lists.specs.Lists.{clausesOf}
+use Rattle.lists.proofs.list.ClauseList.literals.Given as given
 
 -- the clauses seen and those that are left have the literals of all
 abbrev pub Inv-loop-clause : given.InvT-loop-clause

@@ -5,8 +5,8 @@ use Prim.Native.Nat.{ℕ}
 use denote.Ref.{RefT, now}
 use Rattle.std.specs.declared.option.Option.{Option}
 use Rattle.std.specs.declared.option.Option.the-variants.{Some, None}
-use Rattle.clauses.specs.Spelling.{clausesIn}
-use Rattle.clauses.specs.declared.list.ClauseList.{ClauseList}
+use Rattle.lists.specs.Spelling.{clausesIn}
+use Rattle.lists.specs.declared.list.ClauseList.{ClauseList}
 
 -- the clauses of a list
 abbrev pub clausesOf : ClauseList → List (List ℕ)

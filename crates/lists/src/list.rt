@@ -2,8 +2,8 @@
 ghost use mathlib.Core.Path.{_≡_};
 ghost use lib.ListN.{length};
 ghost use Rattle.system.specs.Literals.{size};
-ghost use Rattle.clauses.specs.Spelling.{clauseAt, afterClause, clausesIn};
-ghost use Rattle.clauses.specs.Lists.{clausesOf, Stepped};
+ghost use Rattle.lists.specs.Spelling.{clauseAt, afterClause, clausesIn};
+ghost use Rattle.lists.specs.Lists.{clausesOf, Stepped};
 
 // A list of clauses in bytes, which gives them in order. Where a clause would pass the end, it has what is there: of a
 // list that was read without a fault that is every clause whole.

@@ -2,9 +2,9 @@ use mathlib.Core.List.{_∷_}
 use mathlib.Core.Path.{sym, ap₂, _∙_}
 use native.Mathlib.Omega.{arith}
 use Prim.Native.Nat.{_-_}
-use Rattle.clauses.specs.Spelling.{clausesIn}
-use Rattle.clauses.proofs.Spelled.{clauses-none, clauses-first}
-use Rattle.clauses.proofs.list.ClauseListIterator.next.Needs as need
+use Rattle.lists.specs.Spelling.{clausesIn}
+use Rattle.lists.proofs.Spelled.{clauses-none, clauses-first}
+use Rattle.lists.proofs.list.ClauseListIterator.next.Needs as need
 
 pub returns-then-self-eq0 : need.returns-then-self-eq0
 returns-then-self-eq0 c =

@@ -1,8 +1,8 @@
 use native.Mathlib.Omega.{arith}
 use mathlib.Core.Path.{ap}
 use Rattle.system.specs.Literals.{size}
-use Rattle.clauses.proofs.Spelled.{clauses-size}
-use Rattle.clauses.proofs.list.ClauseList.literals.Needs as need
+use Rattle.lists.proofs.Spelled.{clauses-size}
+use Rattle.lists.proofs.list.ClauseList.literals.Needs as need
 
 pub add-total : need.add-total
 add-total c =

@@ -3,8 +3,8 @@ use mathlib.Core.Path.{_∙_}
 use borrow.Author.Tests.{ltb-true, ltb-false}
 use Prim.Native.Nat.{_<_}
 use lib.ListN.{length}
-use Rattle.clauses.proofs.Spelled.{nothing-at, nothing-after, cut-front, cut-back}
-use Rattle.clauses.proofs.list.first_clause.Needs as need
+use Rattle.lists.proofs.Spelled.{nothing-at, nothing-after, cut-front, cut-back}
+use Rattle.lists.proofs.list.first_clause.Needs as need
 
 pub returns-in-rest : need.returns-in-rest
 returns-in-rest c = record { literals = nothing-at (c .args .bytes .now) (omega (arith, ltb-true)); after = nothing-after (c .args .bytes .now) (omega (arith, ltb-true)) }
