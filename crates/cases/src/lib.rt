@@ -1,4 +1,6 @@
 // Cases: bytes that spell a transition system, read and kept. A case answers its relays, inputs, lists and clauses.
+#![tactic(auto)]
+
 mod answers;
 mod case;
 mod reading;

@@ -1,4 +1,6 @@
 // Reads clauses from bytes with their faults in order, as sections of a case and as lists of candidates.
+#![tactic(auto)]
+
 mod candidates;
 mod reader;
 mod scope;

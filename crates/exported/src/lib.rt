@@ -1,4 +1,6 @@
 // Both solvers for programs in C or Rust, as a static library: one list of clauses, and questions about it.
+#![tactic(auto)]
+
 mod asking;
 mod reply;
 

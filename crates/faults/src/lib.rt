@@ -1,5 +1,7 @@
 // What is refused, by layers: a fault of one clause (layer 1) travels whole inside the fault of a case (layer 2), and
 // both inside a fault of the work above (layer 3). Every fault tells its layer, its number and its place.
+#![tactic(auto)]
+
 mod case;
 mod clause;
 mod work;

@@ -1,5 +1,7 @@
 // Reads a case from standard input and prints what it read, or the refusal. What is said is the library's; here it is
 // only read and printed.
+#![tactic(auto)]
+
 use report::report;
 use std::io::Read;
 

@@ -1,4 +1,6 @@
 // Sets of literals over 128 variables, as two numbers of 128 bits: clauses and partial assignments for the solvers.
+#![tactic(auto)]
+
 mod mask;
 mod operations;
 

@@ -1,4 +1,6 @@
 // What the program says of a case, as lines of text.
+#![tactic(auto)]
+
 ghost use Rattle.std.specs.Prelude.{◌≡◌, IfOk, string_bytes};
 ghost use Rattle.faults.specs.Refusals.{work_refusal};
 ghost use Rattle.layout.specs.Reading.{read_case};

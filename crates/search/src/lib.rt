@@ -1,5 +1,7 @@
 // The search of the propagating solver: it propagates, learns from conflicts and jumps back, and chooses the lowest open
 // variable, false first, until all is true or nothing can be.
+#![tactic(auto)]
+
 mod learned;
 mod learning;
 mod outcome;

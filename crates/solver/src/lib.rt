@@ -1,5 +1,7 @@
 // What a solver is: it holds a list of clauses within two fixed capacities, and says whether some valuation makes all of
 // them and some assumed literals true. Every byte is a literal: about variable byte / 2, negated where odd.
+#![tactic(auto)]
+
 ghost use Rattle.std.specs.Prelude.{◌≡◌, ℕ, ◌≤◌, true, List, [], ◌∷◌, ◌++◌, length, take, is_ok, if◌then◌else◌};
 ghost use Rattle.system.specs.Literals.{size};
 ghost use Rattle.solver.specs.Answers.{Answered, fits};

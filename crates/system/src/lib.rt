@@ -1,5 +1,7 @@
 // Transition systems over relays. What a literal, a clause, a state, a step and a run are stands in specs/; here are the
 // one test of a literal that code shares, and the laws that every layer above rests on.
+#![tactic(auto)]
+
 ghost use Rattle.std.specs.Prelude.{◌≡◌};
 ghost use Rattle.system.specs.Literals.{variable_of};
 ghost use Rattle.system.specs.Laws.{TruthByOccurring, RunPrefix, InductiveReached, SafeWhenReached};

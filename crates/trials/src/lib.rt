@@ -1,5 +1,7 @@
 // Cases at the limits of the format, run: tables of changed bytes with the refusal that each must bring. The expected
 // values are worked out by hand from the description of the format, not from the code.
+#![tactic(auto)]
+
 #[cfg(test)]
 mod answers;
 #[cfg(test)]
