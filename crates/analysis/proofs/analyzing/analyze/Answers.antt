@@ -42,7 +42,7 @@ loop-at-preserved-then-mentions c =
     let e : c.loop-at.at ≡ k + 1 = omega arith in
     let once = ap distinct c.decisions-decisions.ensures ∙ c.args.trail.now.once in
     let f = subst (λ (y : Decision). (j : ℕ) (b : Bool) → inside c.reduced-clause.result j b ≡ ((inside c.loop-at.clause j b || inside (reason_of y.forcing) j b) && not (eqb j y.variable))) c.index-decisions-at.is c.reduced-clause.ensures in
-    let n : (get_or ds k d).forcing ≡ Chosen → ⊥ = λ q. c.in-default.ensures (λ x. ap (λ (y : Decision). y.forcing) (get_or_default ds k x d h) ∙ q) in (
+    let n : (get_or ds k d).forcing ≡ Chosen → ⊥ = λ q. c.in_default.ensures (λ x. ap (λ (y : Decision). y.forcing) (get_or_default ds k x d h) ∙ q) in (
       omega (arith, c.loop-at.invariant.0),
       λ base refutes sound implied.
           let r = c.loop-at.invariant.1 base refutes sound implied in

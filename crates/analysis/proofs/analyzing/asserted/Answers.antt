@@ -24,5 +24,5 @@ returns-in-Chosen c = (
   λ e refuted. asserts_here c.args.decisions.now c.args.at e c.requires.within c.requires.once c.args.clause refuted,
 )
 
-pub returns-in-default-forcing : goal.returns-in-default-forcing
-returns-in-default-forcing c k = c.in-default-forcing.not-Chosen (ap (λ (y : Decision). y.forcing) c.index-decisions-at.is ∙ k c.index-decisions-at.result)
+pub returns-in_default-forcing : goal.returns-in_default-forcing
+returns-in_default-forcing c k = c.in_default-forcing.not-Chosen (ap (λ (y : Decision). y.forcing) c.index-decisions-at.is ∙ k c.index-decisions-at.result)

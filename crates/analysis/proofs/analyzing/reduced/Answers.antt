@@ -9,7 +9,7 @@ returns-in-Forced c j b =
     c.resolved.ensures j b
     ∙ ap₂ (λ m v. (inside c.args.clause j b || inside m j b) && not (eqb j v)) (sym (ap reason_of c.in-Forced.is)) (mod-eq_of_lt c.args.decision.small)
 
-pub returns-in-default : goal.returns-in-default
-returns-in-default c j b =
-    c.resolved-in-default.ensures j b
-    ∙ ap₂ (λ m v. (inside c.args.clause j b || inside m j b) && not (eqb j v)) (sym (no_reason c.args.decision.forcing c.in-default.not-Forced)) (mod-eq_of_lt c.args.decision.small)
+pub returns-in_default : goal.returns-in_default
+returns-in_default c j b =
+    c.resolved-in_default.ensures j b
+    ∙ ap₂ (λ m v. (inside c.args.clause j b || inside m j b) && not (eqb j v)) (sym (no_reason c.args.decision.forcing c.in_default.not-Forced)) (mod-eq_of_lt c.args.decision.small)

@@ -6,17 +6,17 @@ use Rattle.clauses.specs.Reading.{literals_fault}
 use Rattle.clauses.proofs.Found.{literal_bad, literal_good}
 use Rattle.clauses.proofs.reader.check_literals.Goals as goal
 
-pub returns-in-err-low : goal.returns-in-err-low
-returns-in-err-low c =
-    let p = err_from_is_err_and c.from-residual.result c.from-residual.ensures.1 in
-    let f = literal_bad c.args.scope (c.args.at + c.loop-i.i) c.loop-i.low c.args.literals.now c.loop-i.i c.loop-i-test.true c.in-err-low.field-0.0 c.in-err-low.ensures in
+pub returns-in_err-low : goal.returns-in_err-low
+returns-in_err-low c =
+    let p = err_from_is_err_and c.from_residual.result c.from_residual.ensures.1 in
+    let f = literal_bad c.args.scope (c.args.at + c.loop-i.i) c.loop-i.low c.args.literals.now c.loop-i.i c.loop-i-test.true c.in_err-low.field-0.0 c.in_err-low.ensures in
     p.1 ∙ ap Err p.2 ∙ sym (ap (λ o. unless o tt) (sym c.loop-i.invariant ∙ f))
 
 pub loop-i-preserved : goal.loop-i-preserved
 loop-i-preserved c =
     let e : c.args.at + (c.loop-i.i + 1) ≡ c.args.at + c.loop-i.i + 1 = omega arith in
-    ap (λ k. literals_fault c.args.scope k c.in-ok-low.low (drop (c.loop-i.i + 1) c.args.literals.now)) e
-    ∙ sym (literal_good c.args.scope (c.args.at + c.loop-i.i) c.loop-i.low c.args.literals.now c.loop-i.i c.loop-i-test.true c.in-ok-low.low c.in-ok-low.ensures)
+    ap (λ k. literals_fault c.args.scope k c.in_ok-low.low (drop (c.loop-i.i + 1) c.args.literals.now)) e
+    ∙ sym (literal_good c.args.scope (c.args.at + c.loop-i.i) c.loop-i.low c.args.literals.now c.loop-i.i c.loop-i-test.true c.in_ok-low.low c.in_ok-low.ensures)
     ∙ c.loop-i.invariant
 
 pub returns : goal.returns

@@ -7,33 +7,33 @@ use Rattle.clauses.proofs.reader.take_clauses.Goals as goal
 pub loop-init : goal.loop-init
 loop-init c = midway_start c.args.scope c.args.count c.args.at c.args.section.now
 
-pub overflow-sub-section : goal.overflow-sub-section
-overflow-sub-section c = midway_short c.args.scope c.args.count c.args.at c.args.section.now c.loop.counter c.loop.rest.now c.loop.invariant
+pub overflow_sub-section : goal.overflow_sub-section
+overflow_sub-section c = midway_short c.args.scope c.args.count c.args.at c.args.section.now c.loop.counter c.loop.rest.now c.loop.invariant
 
-pub overflow-add-at : goal.overflow-add-at
-overflow-add-at c =
+pub overflow_add-at : goal.overflow_add-at
+overflow_add-at c =
     let h = midway_short c.args.scope c.args.count c.args.at c.args.section.now c.loop.counter c.loop.rest.now c.loop.invariant in
     omega arith
 
-pub take-clause-requires : goal.take-clause-requires
-take-clause-requires c =
+pub take_clause-requires : goal.take_clause-requires
+take_clause-requires c =
     omega (arith, midway_short c.args.scope c.args.count c.args.at c.args.section.now c.loop.counter c.loop.rest.now c.loop.invariant)
 
-pub returns-in-err-after : goal.returns-in-err-after
-returns-in-err-after c =
-    let p = err_from_is_err_and c.from-residual.result c.from-residual.ensures.1 in
+pub returns-in_err-after : goal.returns-in_err-after
+returns-in_err-after c =
+    let p = err_from_is_err_and c.from_residual.result c.from_residual.ensures.1 in
     rw (p.1, p.2)
-    (midway_fault c.args.scope c.args.count c.args.at c.args.section.now c.loop.counter c.loop.rest.now c.loop.invariant c.loop-test.true c.in-err-after.field-0.0 c.in-err-after.ensures)
+    (midway_fault c.args.scope c.args.count c.args.at c.args.section.now c.loop.counter c.loop.rest.now c.loop.invariant c.loop-test.true c.in_err-after.field-0.0 c.in_err-after.ensures)
 
 pub loop-preserved : goal.loop-preserved
 loop-preserved c =
-    midway_on c.args.scope c.args.count c.args.at c.args.section.now c.loop.counter c.loop.rest.now c.loop.invariant c.loop-test.true c.in-ok-after.field-0-0.now c.in-ok-after.after.now c.in-ok-after.ensures
+    midway_on c.args.scope c.args.count c.args.at c.args.section.now c.loop.counter c.loop.rest.now c.loop.invariant c.loop-test.true c.in_ok-after.field-0-0.now c.in_ok-after.after.now c.in_ok-after.ensures
 
-pub overflow-sub-section-2 : goal.overflow-sub-section-2
-overflow-sub-section-2 c = midway_short c.args.scope c.args.count c.args.at c.args.section.now c.loop.counter c.loop.rest.now c.loop.invariant
+pub overflow_sub-section-2 : goal.overflow_sub-section-2
+overflow_sub-section-2 c = midway_short c.args.scope c.args.count c.args.at c.args.section.now c.loop.counter c.loop.rest.now c.loop.invariant
 
-pub split-at-requires : goal.split-at-requires
-split-at-requires c = omega arith
+pub split_at-requires : goal.split_at-requires
+split_at-requires c = omega arith
 
 pub returns : goal.returns
 returns c =
@@ -41,8 +41,8 @@ returns c =
     let n = c.args.count in
     let m = c.loop.invariant in
     let e : c.loop.counter ≡ n = omega arith in
-    let left = midway_left c.args.scope n c.args.at bs c.loop.counter c.loop.rest.now m e _ c.split-at.ensures.back in
-    let listed = c.over.ensures ∙ midway_listed c.args.scope n c.args.at bs c.loop.counter c.loop.rest.now m e _ c.split-at.ensures.front in
+    let left = midway_left c.args.scope n c.args.at bs c.loop.counter c.loop.rest.now m e _ c.split_at.ensures.back in
+    let listed = c.over.ensures ∙ midway_listed c.args.scope n c.args.at bs c.loop.counter c.loop.rest.now m e _ c.split_at.ensures.front in
     record {
       sound = midway_end c.args.scope n c.args.at bs c.loop.counter c.loop.rest.now m c.loop-test.false;
       clauses = listed;

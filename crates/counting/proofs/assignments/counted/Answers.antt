@@ -23,12 +23,12 @@ assignments-preserved c =
         | inr (inl l) ↦ i.0 j (sym (s.same j l) ∙ t)
         | inr (inr g) ↦ absurd (true≢false (sym t ∙ s.cleared j g))
       ]),
-      (λ base given. next_early c.occurring-all.result c.assignments.trues c.without-falses.result c.occurring-all.type-inv c.without-falses.ensures (λ a. T (clauses a base))
+      (λ base given. next_early c.occurring-all.result c.assignments.trues c.without-falses.result c.occurring-all.type_inv c.without-falses.ensures (λ a. T (clauses a base))
           (λ a b mods. i.1 base given a b mods)
           (λ a agree mods. among_implied base c.args.masks.now c.args.assumed.now missed.0 given missed.1 a mods
           (missed_fails c.occurring-all.result c.assignments.trues c.without-falses.result missed.0 c.without-falses.ensures (c.occurring-all.ensures missed.0 missed.1) missed.2 a agree))
           c.next-trues.result q s),
-      c.next-trues.type-inv,
+      c.next-trues.type_inv,
     )
 
 pub assignments-smaller : goal.assignments-smaller
@@ -45,14 +45,14 @@ returns-then-satisfied c held e =
     let t = c.assignments.trues in
     let f = c.without-falses.result in
     let found = c.if-satisfied.ensures in
-    subst (Answered held c.args.assumed.now) (sym c.yes-of.ensures)
+    subst (Answered held c.args.assumed.now) (sym c.yes_of.ensures)
     (yes_answered (record { positive = t; negative = f }) (one_value c.occurring-all.result t f c.without-falses.ensures) held c.args.assumed.now c.args.masks.now e found.0 found.1)
 
 pub returns-then-falses-eq0 : goal.returns-then-falses-eq0
 returns-then-falses-eq0 c held e =
     no_answered held c.args.assumed.now c.args.masks.now e (λ base given b.
     let missed = c.if-satisfied.ensures in
-    none_left c.occurring-all.result c.assignments.trues c.without-falses.result c.occurring-all.type-inv c.without-falses.ensures (λ a. T (clauses a base))
+    none_left c.occurring-all.result c.assignments.trues c.without-falses.result c.occurring-all.type_inv c.without-falses.ensures (λ a. T (clauses a base))
     (λ a e mods. c.assignments.invariant.1 base given a e mods)
     (λ a agree mods. among_implied base c.args.masks.now c.args.assumed.now missed.0 given missed.1 a mods
     (missed_fails c.occurring-all.result c.assignments.trues c.without-falses.result missed.0 c.without-falses.ensures (c.occurring-all.ensures missed.0 missed.1) missed.2 a agree))

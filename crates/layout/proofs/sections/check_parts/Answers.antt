@@ -10,13 +10,13 @@ use Rattle.layout.proofs.sections.check_parts.Goals as goal
 pub returns : goal.returns
 returns c =
     let bs = c.args.bytes.now in
-    let h = c.in-ok-header.ensures in
-    let first = c.in-ok-step-at.ensures in
-    let second = c.in-ok-safety-at.ensures in
-    let third = c.in-ok-end.ensures in
-    let step : c.in-ok-step-at.step-at ≡ step_place bs = first.ends ∙ ap (λ k. end_of k 18 bs) h.start_count in
-    let safety : c.in-ok-safety-at.safety-at ≡ safety_place bs = second.ends ∙ ap₂ (λ k at. end_of k at bs) h.step_count step in
-    let left : c.in-ok-end.end ≡ left_place bs = third.ends ∙ ap₂ (λ k at. end_of k at bs) h.safety_count safety in
+    let h = c.in_ok-header.ensures in
+    let first = c.in_ok-step_at.ensures in
+    let second = c.in_ok-safety_at.ensures in
+    let third = c.in_ok-end.ensures in
+    let step : c.in_ok-step_at.step_at ≡ step_place bs = first.ends ∙ ap (λ k. end_of k 18 bs) h.start_count in
+    let safety : c.in_ok-safety_at.safety_at ≡ safety_place bs = second.ends ∙ ap₂ (λ k at. end_of k at bs) h.step_count step in
+    let left : c.in_ok-end.end ≡ left_place bs = third.ends ∙ ap₂ (λ k at. end_of k at bs) h.safety_count safety in
     let one : section_fault Start (field bs 10) (Before (field bs 0)) (field bs 4) 18 bs ≡ None =
     sym (λ i. section_fault Start (h.start_offset i) (Before (h.relays i)) (h.start_count i) 18 bs) ∙ first.sound in
     let two : section_fault Step (field bs 12) (Across (field bs 0) (field bs 2)) (field bs 6) (step_place bs) bs ≡ None =

@@ -6,7 +6,7 @@ use Rattle.masks.proofs.operations.mask_of.Goals as goal
 
 pub loop-literal-preserved : goal.loop-literal-preserved
 loop-literal-preserved c =
-    c.with-literal-mask.ensures
+    c.with_literal-mask.ensures
     ∙ ap (λ m. with_literal m (get_or c.args.clause.now c.loop-literal.literal-index 0)) c.loop-literal.invariant
     ∙ sym (fold_more with_literal none c.args.clause.now c.loop-literal.literal-index 0 (omega arith))
 

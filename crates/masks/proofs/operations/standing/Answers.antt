@@ -29,13 +29,13 @@ returns-then-open-eq0 c =
 small : (p n : ℕ) → p < 2 ^ 128 → n < 2 ^ 128 → (bit_or p n ≡ 0 → ⊥) → count_trailing_zeros 128 (bit_or p n) < 128
 small p n h k z = (lowest 128 (bit_or p n) (omega arith) (or_lt 128 p n h k)).small
 
-pub overflow-shl-variable : goal.overflow-shl-variable
-overflow-shl-variable c = small _ _ c.without-positive.type-inv c.without-negative.type-inv c.if-open-eq0.false
+pub overflow_shl-variable : goal.overflow_shl-variable
+overflow_shl-variable c = small _ _ c.without-positive.type_inv c.without-negative.type_inv c.if-open-eq0.false
 
 pub returns-then-negative-eq0 : goal.returns-then-negative-eq0
 unfolding open_of
 returns-then-negative-eq0 c =
-    let h = small _ _ c.without-positive.type-inv c.without-negative.type-inv c.if-open-eq0.false in
+    let h = small _ _ c.without-positive.type_inv c.without-negative.type_inv c.if-open-eq0.false in
     let r = one_open c.args.mask c.args.assigned (open_of c.without-positive.result c.without-negative.result) c.variables-known.result
     c.if-meets.ensures c.variables-known.ensures
     (opened c.args.mask _ _ _ c.without-positive.ensures c.without-negative.ensures)
@@ -47,7 +47,7 @@ returns-then-negative-eq0 c =
 pub returns-then-positive-eq0 : goal.returns-then-positive-eq0
 unfolding open_of
 returns-then-positive-eq0 c =
-    let h = small _ _ c.without-positive.type-inv c.without-negative.type-inv c.if-open-eq0.false in
+    let h = small _ _ c.without-positive.type_inv c.without-negative.type_inv c.if-open-eq0.false in
     let r = one_open c.args.mask c.args.assigned (open_of c.without-positive.result c.without-negative.result) c.variables-known.result
     c.if-meets.ensures c.variables-known.ensures
     (opened c.args.mask _ _ _ c.without-positive.ensures c.without-negative.ensures)

@@ -5,4 +5,4 @@ use Rattle.masks.proofs.operations.with_literal.Goals as goal
 pub returns : goal.returns
 returns c =
     let h : c.args.literal / 2 < 128 = omega arith in
-    c.with-value.ensures ∙ ap (λ v. with_value c.args.mask v (eqb (c.args.literal % 2) 0)) (mod-eq_of_lt h)
+    c.with_value.ensures ∙ ap (λ v. with_value c.args.mask v (eqb (c.args.literal % 2) 0)) (mod-eq_of_lt h)

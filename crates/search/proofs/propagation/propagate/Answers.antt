@@ -6,8 +6,8 @@ use Rattle.search.specs.Searches.{Extends}
 use Rattle.search.proofs.Stepping.{extends_trans}
 use Rattle.search.proofs.propagation.propagate.Goals as goal
 
-pub returns-in-default : goal.returns-in-default
-returns-in-default c =
+pub returns-in_default : goal.returns-in_default
+returns-in_default c =
     let same = sym c.advance.ensures.entries in
     record {
       more = subst (Extends (entries c.args.trail.now)) same c.loop-turn.invariant.0;
@@ -30,7 +30,7 @@ returns-in-Some-follow c =
 pub returns-in-Some-follow-2 : goal.returns-in-Some-follow-2
 returns-in-Some-follow-2 c =
     let same = sym c.advance.ensures.entries in
-    let kept = sym (c.as-slice.ensures.value ∙ c.loop-turn.invariant.2) in
+    let kept = sym (c.as_slice.ensures.value ∙ c.loop-turn.invariant.2) in
     let found = c.in-Some-follow-2.ensures.found in
     record {
       more = extends_trans _ _ _ (extends_trans _ _ _ (subst (Extends (entries c.args.trail.now)) same c.loop-turn.invariant.0) c.follow.ensures.more) c.follow-in-loop-turn.ensures.more;
@@ -43,7 +43,7 @@ returns-in-Some-follow-2 c =
 pub loop-turn-preserved : goal.loop-turn-preserved
 loop-turn-preserved c =
     let same = sym c.advance.ensures.entries in
-    let kept = sym (c.as-slice.ensures.value ∙ c.loop-turn.invariant.2) in (
+    let kept = sym (c.as_slice.ensures.value ∙ c.loop-turn.invariant.2) in (
       extends_trans _ _ _ (extends_trans _ _ _ (subst (Extends (entries c.args.trail.now)) same c.loop-turn.invariant.0) c.follow.ensures.more) c.follow-in-loop-turn.ensures.more,
       (λ base each learned sound. c.follow-in-loop-turn.ensures.sound base (subst (Each base) kept learned)
           (c.follow.ensures.sound base each (subst (Sound base) same (c.loop-turn.invariant.1 base each learned sound)))),

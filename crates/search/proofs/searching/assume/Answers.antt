@@ -25,7 +25,7 @@ loop-literal-preserved c base units sound =
           subst (Sound base) (sym items) (sound_push base ds made.made (c.loop-literal.invariant base units sound)
           (because base ds made.made _ _ Assumed made.variable made.value made.forcing
           (assumed_value base l _ _ (units c.loop-literal.literal-index c.loop-literal-test.true)
-          (subst (λ m. inside m w.in-Forces.variable w.in-Forces.value ≡ true) c.with-literal-mask.ensures stands.1)))))
+          (subst (λ m. inside m w.in-Forces.variable w.in-Forces.value ≡ true) c.with_literal-mask.ensures stands.1)))))
       | in-True w ↦ subst (λ (t : Trail). Sound base (entries t)) (sym w.trail-is) (c.loop-literal.invariant base units sound)
       | in-Open w ↦ subst (λ (t : Trail). Sound base (entries t)) (sym w.trail-is) (c.loop-literal.invariant base units sound)
     ]
@@ -37,7 +37,7 @@ returns-in-False c =
     record {
       sound = c.loop-literal.invariant;
       found = (
-        refuted_of c.with-literal-mask.result c.assigned.result ds spelled c.in-False.ensures,
-        λ base units. subst (Implied base) (sym c.with-literal-mask.ensures) (units c.loop-literal.literal-index c.loop-literal-test.true),
+        refuted_of c.with_literal-mask.result c.assigned.result ds spelled c.in-False.ensures,
+        λ base units. subst (Implied base) (sym c.with_literal-mask.ensures) (units c.loop-literal.literal-index c.loop-literal-test.true),
       );
     }

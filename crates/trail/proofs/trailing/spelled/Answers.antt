@@ -12,10 +12,10 @@ loop-decision-init c j b = inside_none j b
 
 pub loop-decision-preserved : goal.loop-decision-preserved
 loop-decision-preserved c =
-    subst (Spells c.with-value-assigned.result)
+    subst (Spells c.with_value-assigned.result)
     (sym (take_more c.args.decisions.now c.loop-decision.decision-index c.decision-item.result c.loop-decision-test.true))
     (spells_push c.loop-decision.assigned _ _ (get_or c.args.decisions.now c.loop-decision.decision-index c.decision-item.result) c.loop-decision.invariant
-    (c.with-value-assigned.ensures ∙ ap (λ (d : Decision). with_value c.loop-decision.assigned (d.variable % 128) d.value) c.decision-item.is))
+    (c.with_value-assigned.ensures ∙ ap (λ (d : Decision). with_value c.loop-decision.assigned (d.variable % 128) d.value) c.decision-item.is))
 
 pub returns : goal.returns
 returns c = subst (Spells c.loop-decision.assigned) (take_all _ _ c.loop-decision-test.false) c.loop-decision.invariant

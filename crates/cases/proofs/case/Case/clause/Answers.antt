@@ -11,18 +11,18 @@ use Rattle.cases.proofs.case.Case.clause.Goals as goal
 pub loop-literals-init : goal.loop-literals-init
 loop-literals-init c = (tt, tt, omega arith, refl, omega arith)
 
-pub overflow-add-result : goal.overflow-add-result
-overflow-add-result c =
+pub overflow_add-result : goal.overflow_add-result
+overflow_add-result c =
     let s = system_of c.args.self.now in
-    let e = ap clauses_of c.into-iter-literals-iterator.ensures.into-iter-gives ∙ c.list-literals-items.ensures in
+    let e = ap clauses_of c.into_iter-literals-iterator.ensures.into_iter-gives ∙ c.list-literals-items.ensures in
     let w = front_ends s (case_admitted c.args.self.now) c.args.list c.loop-literals.passed in
     omega (arith, ap (λ cs. length (spell_clauses (take c.loop-literals.passed cs))) e, c.beginning-at.ensures)
 
 pub returns-then-passed-number : goal.returns-then-passed-number
 returns-then-passed-number c =
     let s = system_of c.args.self.now in
-    let cs = clauses_of c.into-iter-literals-iterator.result in
-    let e : cs ≡ list_of c.args.list s = ap clauses_of c.into-iter-literals-iterator.ensures.into-iter-gives ∙ c.list-literals-items.ensures in
+    let cs = clauses_of c.into_iter-literals-iterator.result in
+    let e : cs ≡ list_of c.args.list s = ap clauses_of c.into_iter-literals-iterator.ensures.into_iter-gives ∙ c.list-literals-items.ensures in
     let d = c.loop-literals.invariant.3 ∙ c.in-Some.ensures.steps in
     let n = walk_next cs c.loop-literals.passed c.in-Some.literals.now (clauses_of c.next.new.self) [] d in
     let k = c.if-passed-number.true in
@@ -36,29 +36,29 @@ returns-then-passed-number c =
       part = clause_lies s c.args.list c.args.number c.in-Some.literals.now (clauses_of c.next.new.self) (sym (ap₂ drop k e) ∙ d) _ place;
     }
 
-pub overflow-add-at-in-loop-literals : goal.overflow-add-at-in-loop-literals
-overflow-add-at-in-loop-literals c =
+pub overflow_add-at-in-loop-literals : goal.overflow_add-at-in-loop-literals
+overflow_add-at-in-loop-literals c =
     let s = system_of c.args.self.now in
-    let cs = clauses_of c.into-iter-literals-iterator.result in
-    let e : cs ≡ list_of c.args.list s = ap clauses_of c.into-iter-literals-iterator.ensures.into-iter-gives ∙ c.list-literals-items.ensures in
+    let cs = clauses_of c.into_iter-literals-iterator.result in
+    let e : cs ≡ list_of c.args.list s = ap clauses_of c.into_iter-literals-iterator.ensures.into_iter-gives ∙ c.list-literals-items.ensures in
     let n = walk_next cs c.loop-literals.passed c.in-Some.literals.now (clauses_of c.next.new.self) [] (c.loop-literals.invariant.3 ∙ c.in-Some.ensures.steps) in
     let w = front_ends s (case_admitted c.args.self.now) c.args.list (c.loop-literals.passed + 1) in
     let m = spell_more cs c.loop-literals.passed c.in-Some.literals.now n.passed in
     omega (arith, ap (λ ds. length (spell_clauses (take (c.loop-literals.passed + 1) ds))) e, c.beginning-at.ensures)
 
-pub overflow-add-passed : goal.overflow-add-passed
-overflow-add-passed c = omega arith
+pub overflow_add-passed : goal.overflow_add-passed
+overflow_add-passed c = omega arith
 
 pub loop-literals-preserved : goal.loop-literals-preserved
 loop-literals-preserved c =
-    let cs = clauses_of c.into-iter-literals-iterator.result in
+    let cs = clauses_of c.into_iter-literals-iterator.result in
     let n = walk_next cs c.loop-literals.passed c.in-Some.literals.now (clauses_of c.next.new.self) [] (c.loop-literals.invariant.3 ∙ c.in-Some.ensures.steps) in
     let m = spell_more cs c.loop-literals.passed c.in-Some.literals.now n.passed in
     (tt, tt, omega arith, n.left, omega arith)
 
 pub returns : goal.returns
 returns c =
-    let cs = clauses_of c.into-iter-literals-iterator.result in
-    let e = ap length (ap clauses_of c.into-iter-literals-iterator.ensures.into-iter-gives ∙ c.list-literals-items.ensures) in
+    let cs = clauses_of c.into_iter-literals-iterator.result in
+    let e = ap length (ap clauses_of c.into_iter-literals-iterator.ensures.into_iter-gives ∙ c.list-literals-items.ensures) in
     let w = walk_end cs c.loop-literals.passed (c.loop-literals.invariant.3 ∙ c.in-None.ensures.steps.0) in
     (omega arith, refl)

@@ -5,4 +5,4 @@ use Rattle.cases.proofs.case.Case.relays.Goals as goal
 
 pub returns : goal.returns
 unfolding system_of
-returns c = c.read-field.ensures ∙ ap (λ bs. field bs 0) c.content.ensures.value
+returns c = c.read_field.ensures ∙ ap (λ bs. field bs 0) c.content.ensures.value

@@ -15,6 +15,6 @@ returns c =
     record {
       steps =
           clauses_first k c.args.self.now.bytes.now c.if-self-eq0.false
-          ∙ ap₂ (λ d cs. d ∷ clauses_in (k - 1) cs) (sym c.first-clause.ensures.literals) (sym c.first-clause.ensures.after);
+          ∙ ap₂ (λ d cs. d ∷ clauses_in (k - 1) cs) (sym c.first_clause.ensures.literals) (sym c.first_clause.ensures.after);
       goes = firm ((tt, tt, omega arith)) (λ h. search rules);
     }

@@ -5,4 +5,4 @@ use Rattle.search.proofs.learned.Learned.remember.Goals as goal
 
 pub returns : goal.returns
 returns c base each implied =
-    subst (Each base) (sym c.push-reserved.ensures.items) (each_push base (vec_items c.make-room.new.self.clauses) c.args.clause (c.make-room.ensures.each base each) implied)
+    subst (Each base) (sym c.push_reserved.ensures.items) (each_push base (vec_items c.make_room.new.self.clauses) c.args.clause (c.make_room.ensures.each base each) implied)

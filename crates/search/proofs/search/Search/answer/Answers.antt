@@ -13,7 +13,7 @@ pub returns-then-searched : goal.returns-then-searched
 returns-then-searched c held e =
     let t = c.searched.new.trail in
     let found = c.if-searched.ensures in
-    subst (Answered held c.args.assumed.now) (sym (c.yes-of.ensures ∙ ap (λ (s : ClauseMask). Yes (s.positive % 2 ^ 64) (s.positive / 2 ^ 64)) c.assigned.ensures))
+    subst (Answered held c.args.assumed.now) (sym (c.yes_of.ensures ∙ ap (λ (s : ClauseMask). Yes (s.positive % 2 ^ 64) (s.positive / 2 ^ 64)) c.assigned.ensures))
     (yes_answered t.assigned (one_value t.assigned (entries t) t.spelled t.once) held c.args.assumed.now c.args.masks.now e found.0 found.1)
 
 pub returns-else-searched : goal.returns-else-searched

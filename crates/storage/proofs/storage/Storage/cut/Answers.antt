@@ -13,11 +13,11 @@ loop-self-preserved c =
     let i = c.loop-self.invariant in
     let n = vec_len c.loop-self.self.masks in
     let h : n - 1 ≤ n = omega arith in (
-      c.drop-last.ensures.held ∙ ap (take (n - 1)) i.0 ∙ take-take (n - 1) n (held_by c.args.self.now) h ∙ ap (λ k. take k (held_by c.args.self.now)) (sym c.drop-last.ensures.len),
+      c.drop_last.ensures.held ∙ ap (take (n - 1)) i.0 ∙ take-take (n - 1) n (held_by c.args.self.now) h ∙ ap (λ k. take k (held_by c.args.self.now)) (sym c.drop_last.ensures.len),
       omega arith,
       omega arith,
-      c.drop-last.ensures.places ∙ i.3,
-      c.drop-last.ensures.room ∙ i.4,
+      c.drop_last.ensures.places ∙ i.3,
+      c.drop_last.ensures.room ∙ i.4,
     )
 
 -- as many as there are, or as are asked for

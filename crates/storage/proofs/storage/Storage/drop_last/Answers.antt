@@ -6,17 +6,17 @@ use Rattle.storage.specs.Storages.{held_by}
 use Rattle.storage.proofs.Pieces.{all_lengths, stays}
 use Rattle.storage.proofs.storage.Storage.drop_last.Goals as goal
 
-pub overflow-sub-rest : goal.overflow-sub-rest
-overflow-sub-rest c =
-    let h = all_lengths c.args.self.now (vec_items c.take-last-last.new.self) c.take-last-last.result c.take-last-last.ensures.items in
+pub overflow_sub-rest : goal.overflow_sub-rest
+overflow_sub-rest c =
+    let h = all_lengths c.args.self.now (vec_items c.take_last-last.new.self) c.take_last-last.result c.take_last-last.ensures.items in
     omega arith
 
-pub invariant-of-self : goal.invariant-of-self
-invariant-of-self c =
-    let h = all_lengths c.args.self.now (vec_items c.take-last-last.new.self) c.take-last-last.result c.take-last-last.ensures.items in
+pub invariant_of-self : goal.invariant_of-self
+invariant_of-self c =
+    let h = all_lengths c.args.self.now (vec_items c.take_last-last.new.self) c.take_last-last.result c.take_last-last.ensures.items in
     let q = c.args.self.now.paired in
-    let r : c.len.result - c.take-last-last.result ≡ vec_len c.args.self.now.literals - c.take-last-last.result = ap (λ n. n - c.take-last-last.result) c.len.ensures in
-    let k = stays c.args.self.now (vec_items c.take-last-last.new.self) c.take-last-last.result c.take-last-last.ensures.items _ _ c.truncate.ensures.items r in (
+    let r : c.len.result - c.take_last-last.result ≡ vec_len c.args.self.now.literals - c.take_last-last.result = ap (λ n. n - c.take_last-last.result) c.len.ensures in
+    let k = stays c.args.self.now (vec_items c.take_last-last.new.self) c.take_last-last.result c.take_last-last.ensures.items _ _ c.truncate.ensures.items r in (
       omega arith,
       (
         omega arith,
@@ -29,9 +29,9 @@ invariant-of-self c =
 
 pub returns : goal.returns
 returns c =
-    let r : c.len.result - c.take-last-last.result ≡ vec_len c.args.self.now.literals - c.take-last-last.result = ap (λ n. n - c.take-last-last.result) c.len.ensures in
+    let r : c.len.result - c.take_last-last.result ≡ vec_len c.args.self.now.literals - c.take_last-last.result = ap (λ n. n - c.take_last-last.result) c.len.ensures in
     record {
-      held = stays c.args.self.now (vec_items c.take-last-last.new.self) c.take-last-last.result c.take-last-last.ensures.items _ _ c.truncate.ensures.items r;
+      held = stays c.args.self.now (vec_items c.take_last-last.new.self) c.take_last-last.result c.take_last-last.ensures.items _ _ c.truncate.ensures.items r;
       len = omega arith;
       places = refl;
       room = refl;
