@@ -14,7 +14,7 @@ loop-literals-init c = (tt, tt, omega arith, refl, omega arith)
 pub overflow_add-result : goal.overflow_add-result
 overflow_add-result c =
     let s = system_of c.args.self.now in
-    let e = ap clauses_of c.into_iter-literals-iterator.ensures.into_iter-gives ∙ c.list-literals-items.ensures in
+    let e = ap clauses_of c.into_iter-literals-iterator.ensures.into_iter_gives ∙ c.list-literals-items.ensures in
     let w = front_ends s (case_admitted c.args.self.now) c.args.list c.loop-literals.passed in
     omega (arith, ap (λ cs. length (spell_clauses (take c.loop-literals.passed cs))) e, c.beginning-at.ensures)
 
@@ -22,7 +22,7 @@ pub returns-then-passed-number : goal.returns-then-passed-number
 returns-then-passed-number c =
     let s = system_of c.args.self.now in
     let cs = clauses_of c.into_iter-literals-iterator.result in
-    let e : cs ≡ list_of c.args.list s = ap clauses_of c.into_iter-literals-iterator.ensures.into_iter-gives ∙ c.list-literals-items.ensures in
+    let e : cs ≡ list_of c.args.list s = ap clauses_of c.into_iter-literals-iterator.ensures.into_iter_gives ∙ c.list-literals-items.ensures in
     let d = c.loop-literals.invariant.3 ∙ c.in-Some.ensures.steps in
     let n = walk_next cs c.loop-literals.passed c.in-Some.literals.now (clauses_of c.next.new.self) [] d in
     let k = c.if-passed-number.true in
@@ -40,7 +40,7 @@ pub overflow_add-at-in-loop-literals : goal.overflow_add-at-in-loop-literals
 overflow_add-at-in-loop-literals c =
     let s = system_of c.args.self.now in
     let cs = clauses_of c.into_iter-literals-iterator.result in
-    let e : cs ≡ list_of c.args.list s = ap clauses_of c.into_iter-literals-iterator.ensures.into_iter-gives ∙ c.list-literals-items.ensures in
+    let e : cs ≡ list_of c.args.list s = ap clauses_of c.into_iter-literals-iterator.ensures.into_iter_gives ∙ c.list-literals-items.ensures in
     let n = walk_next cs c.loop-literals.passed c.in-Some.literals.now (clauses_of c.next.new.self) [] (c.loop-literals.invariant.3 ∙ c.in-Some.ensures.steps) in
     let w = front_ends s (case_admitted c.args.self.now) c.args.list (c.loop-literals.passed + 1) in
     let m = spell_more cs c.loop-literals.passed c.in-Some.literals.now n.passed in
@@ -59,6 +59,6 @@ loop-literals-preserved c =
 pub returns : goal.returns
 returns c =
     let cs = clauses_of c.into_iter-literals-iterator.result in
-    let e = ap length (ap clauses_of c.into_iter-literals-iterator.ensures.into_iter-gives ∙ c.list-literals-items.ensures) in
+    let e = ap length (ap clauses_of c.into_iter-literals-iterator.ensures.into_iter_gives ∙ c.list-literals-items.ensures) in
     let w = walk_end cs c.loop-literals.passed (c.loop-literals.invariant.3 ∙ c.in-None.ensures.steps.0) in
     (omega arith, refl)

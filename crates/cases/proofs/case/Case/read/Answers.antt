@@ -31,7 +31,7 @@ invariant_of-result c =
     let n = unless_ok (case_fault bs) tt tt c.in_ok-check_case.ensures.value in
     let k = c.in_ok-kept.ensures.items in
     let s = sound_spelled bs (λ i. let t = c.type_inv.bytes i in omega arith) (sound_parts bs n) in
-    (ap accepted k ∙ none_accepted bs n, (k ∙ s ∙ ap (λ xs. spell (system_in xs)) (sym k), tt))
+    record { sound = ap accepted k ∙ none_accepted bs n; spelled = k ∙ s ∙ ap (λ xs. spell (system_in xs)) (sym k) }
 
 pub returns : goal.returns
 unfolding system_of
