@@ -1,6 +1,6 @@
 -- Transition systems over n relays and m inputs: initial states, steps, runs, safety, and what is inductive.
 -- A state is a number below 2 ^ n whose bit i is relay i.
-use Rattle.std.specs.Prelude.{ℕ, ◌+◌, ◌-◌, ◌^◌, ◌<◌, Bool, cond, not, ◌&&◌, ◌||◌, T, List, [], ◌∷◌, nat_le, nat_lt}
+use Rattle.std.specs.Prelude.{ℕ, ◌-◌, ◌^◌, ◌<◌, Bool, cond, not, ◌&&◌, ◌||◌, T, List, [], ◌∷◌, nat_le, nat_lt}
 use Rattle.std.specs.List.{AllByRecursion as All}
 use Rattle.system.specs.Literals.{Valuation, bit, variable_of, clauses, Member}
 
