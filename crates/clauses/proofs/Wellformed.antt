@@ -1,6 +1,6 @@
 -- Clauses without a fault are those within their scope whose variables rise. Assumes nothing.
 use Rattle.std.proofs.Common.{◌≡◌, ℕ, zero, suc, ◌+◌, ◌/◌, ◌<◌, ◌≤◌, true, T, leb, List, [], ◌∷◌, ◌++◌, length, take, drop, None, sym, refl, ap, ◌∙◌, ap₂, arith}
-use Rattle.std.specs.List.{AllByRecursion as All}
+use Rattle.std.specs.List.{AllByRecursion}
 use Rattle.std.proofs.lemmas.Bool.{lt-ltb, le-leb, leb-true, ltb-true}
 use Rattle.std.proofs.ByRecursion.{All-weaker}
 use Rattle.std.proofs.lemmas.List.{take-append-drop, append_assoc, take_at, drop_at, length-append}
@@ -17,12 +17,12 @@ use Rattle.clauses.specs.declared.scope.Scope.TheVariants.{Before, Across}
 
 -- a clause of a list: its variables lie in the scope, and rise
 pub record Formed (scope : Scope) (d : List ℕ) : Type 0 where
-  pub over : All (λ l. in_scope scope (l / 2) ≡ true) d
+  pub over : AllByRecursion (λ l. in_scope scope (l / 2) ≡ true) d
   pub rising : Rising d
 
 module _ (scope : Scope) where
   record Above (low : ℕ) (d : List ℕ) : Type 0 where
-    above : All (λ l. low ≤ l / 2) d
+    above : AllByRecursion (λ l. low ≤ l / 2) d
     formed : Formed scope d
 
   literals_formed : (at low : ℕ) (ls : List ℕ) → literals_fault scope at low ls ≡ None → Above low ls
@@ -36,7 +36,7 @@ module _ (scope : Scope) where
         formed = record { over = (unmet_none (in_scope scope (variable_of l)) _ q.0, r.formed.over); rising = (All-weaker (λ k. l / 2 + 1 ≤ k / 2) (λ k. l / 2 < k / 2) (λ k h. omega arith) ls r.above, r.formed.rising) };
       }
 
-  formed_literals : (at low : ℕ) (ls : List ℕ) → All (λ l. low ≤ l / 2) ls → Formed scope ls → literals_fault scope at low ls ≡ None
+  formed_literals : (at low : ℕ) (ls : List ℕ) → AllByRecursion (λ l. low ≤ l / 2) ls → Formed scope ls → literals_fault scope at low ls ≡ None
   formed_literals at low [] a f = refl
   formed_literals at low (l ∷ ls) a f =
       ap₂ or_else (ap₂ or_else (none_unmet (in_scope scope (variable_of l)) (Variable at) f.over.0) (none_unmet (leb low (variable_of l)) (Order at) (le-leb low (variable_of l) a.0)))
@@ -44,7 +44,7 @@ module _ (scope : Scope) where
 
   -- clauses that were read
   pub record ClausesFormed (k : ℕ) (bs : List ℕ) : Type 0 where
-    pub formed : All (Formed scope) (clauses_in k bs)
+    pub formed : AllByRecursion (Formed scope) (clauses_in k bs)
     pub whole : bs ≡ spell_clauses (clauses_in k bs) ++ after_clauses k bs
 
   pub clauses_formed : (k at : ℕ) (bs : List ℕ) → clauses_fault scope k at bs ≡ None → ClausesFormed k bs
@@ -68,11 +68,11 @@ module _ (scope : Scope) where
       length_take_is (suc n) [] h = absurd (let z : ⊥ = omega arith in z)
       length_take_is (suc n) (y ∷ ys) h = ap suc (length_take_is n ys (omega arith))
 
-  all_low : (ls : List ℕ) → All (λ l. 0 ≤ l / 2) ls
+  all_low : (ls : List ℕ) → AllByRecursion (λ l. 0 ≤ l / 2) ls
   all_low [] = tt
   all_low (l ∷ ls) = (omega arith, all_low ls)
 
-  pub formed_clauses : (cs : List (List ℕ)) (at : ℕ) (rest : List ℕ) → All (Formed scope) cs → clauses_fault scope (length cs) at (spell_clauses cs ++ rest) ≡ None
+  pub formed_clauses : (cs : List (List ℕ)) (at : ℕ) (rest : List ℕ) → AllByRecursion (Formed scope) cs → clauses_fault scope (length cs) at (spell_clauses cs ++ rest) ≡ None
   unfolding clauses_fault
   formed_clauses [] at rest h = refl
   formed_clauses (c ∷ cs) at rest h =
@@ -97,14 +97,14 @@ across_over n m d f = (All-weaker (λ l. in_scope (Across n m) (l / 2) ≡ true)
 over_across : (n m : ℕ) (d : List ℕ) → OverVariables n m d × Rising d → Formed (Across n m) d
 over_across n m d h = record { over = All-weaker (λ l. T (in_scope (Across n m) (l / 2))) (λ l. in_scope (Across n m) (l / 2) ≡ true) (λ l e. T_true _ e) d h.0; rising = h.1 }
 
-pub before_all : (n : ℕ) (ds : List (List ℕ)) → All (Formed (Before n)) ds → All (λ d. OverRelays n d × Rising d) ds
+pub before_all : (n : ℕ) (ds : List (List ℕ)) → AllByRecursion (Formed (Before n)) ds → AllByRecursion (λ d. OverRelays n d × Rising d) ds
 before_all n ds h = All-weaker (Formed (Before n)) (λ d. OverRelays n d × Rising d) (before_over n) ds h
 
-pub all_before : (n : ℕ) (ds : List (List ℕ)) → All (λ d. OverRelays n d × Rising d) ds → All (Formed (Before n)) ds
+pub all_before : (n : ℕ) (ds : List (List ℕ)) → AllByRecursion (λ d. OverRelays n d × Rising d) ds → AllByRecursion (Formed (Before n)) ds
 all_before n ds h = All-weaker (λ d. OverRelays n d × Rising d) (Formed (Before n)) (over_before n) ds h
 
-pub across_all : (n m : ℕ) (ds : List (List ℕ)) → All (Formed (Across n m)) ds → All (λ d. OverVariables n m d × Rising d) ds
+pub across_all : (n m : ℕ) (ds : List (List ℕ)) → AllByRecursion (Formed (Across n m)) ds → AllByRecursion (λ d. OverVariables n m d × Rising d) ds
 across_all n m ds h = All-weaker (Formed (Across n m)) (λ d. OverVariables n m d × Rising d) (across_over n m) ds h
 
-pub all_across : (n m : ℕ) (ds : List (List ℕ)) → All (λ d. OverVariables n m d × Rising d) ds → All (Formed (Across n m)) ds
+pub all_across : (n m : ℕ) (ds : List (List ℕ)) → AllByRecursion (λ d. OverVariables n m d × Rising d) ds → AllByRecursion (Formed (Across n m)) ds
 all_across n m ds h = All-weaker (λ d. OverVariables n m d × Rising d) (Formed (Across n m)) (over_across n m) ds h

@@ -1,6 +1,6 @@
 -- Lists of candidate clauses: what reading any bytes gives, and which bytes spell such a list.
 use Rattle.std.specs.Prelude.{◌≡◌, ℕ, zero, suc, ◌-◌, ◌≤◌, ◌↔◌, List, [], ◌∷◌, length, drop, Ok, Err, Option, Result, nat_le}
-use Rattle.std.specs.List.{AllByRecursion as All}
+use Rattle.std.specs.List.{AllByRecursion}
 use Rattle.system.specs.Systems.{OverRelays, Rising}
 use Rattle.faults.specs.Firsts.{unmet, or_else, inside, unless}
 use Rattle.faults.specs.declared.work.WorkFault.{WorkFault}
@@ -41,7 +41,7 @@ gathered (Err f) = Err f
 -- a list of candidates: at most 512 clauses over n relays before a step
 pub record CandidateList (n : ℕ) (cs : List (List ℕ)) : Type 0 where
   pub few : length cs ≤ 512
-  pub formed : All (λ c. OverRelays n c × Rising c) cs
+  pub formed : AllByRecursion (λ c. OverRelays n c × Rising c) cs
 
 -- reading accepts exactly the bytes that spell a list of candidates, and reads them as that list
 abbrev pub ReadAsSpelled : ℕ → List ℕ → Result ClauseList WorkFault → Type 0

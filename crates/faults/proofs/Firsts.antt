@@ -1,6 +1,6 @@
 -- First faults taken apart and put together. Assumes nothing.
 use Rattle.std.proofs.Common.{◌≡◌, ℕ, Bool, true, false, List, [], ◌∷◌, Some, None, Ok, Err, Option, refl, ap, ◌∙◌, arith}
-use Rattle.std.specs.List.{AllByRecursion as All}
+use Rattle.std.specs.List.{AllByRecursion}
 use Rattle.faults.specs.Firsts.{unmet, or_else, first_of, inside, unless}
 
 pub some_clash : {F : Type 0} (f : F) → Some f ≡ None → ⊥
@@ -10,11 +10,11 @@ pub or_none : {F : Type 0} (o p : Option F) → or_else o p ≡ None → (o ≡ 
 or_none None p e = (refl, e)
 or_none (Some f) p e = absurd (some_clash f e)
 
-pub first_none : {F : Type 0} (os : List (Option F)) → first_of os ≡ None → All (λ o. o ≡ None) os
+pub first_none : {F : Type 0} (os : List (Option F)) → first_of os ≡ None → AllByRecursion (λ o. o ≡ None) os
 first_none [] e = tt
 first_none (o ∷ os) e = let p = or_none o (first_of os) e in (p.0, first_none os p.1)
 
-pub none_first : {F : Type 0} (os : List (Option F)) → All (λ o. o ≡ None) os → first_of os ≡ None
+pub none_first : {F : Type 0} (os : List (Option F)) → AllByRecursion (λ o. o ≡ None) os → first_of os ≡ None
 none_first [] h = refl
 none_first (o ∷ os) h = ap (λ p. or_else p (first_of os)) h.0 ∙ none_first os h.1
 

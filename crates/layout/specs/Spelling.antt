@@ -1,6 +1,6 @@
 -- How an admitted system is spelled in bytes, and the law that ties what is accepted to what is spelled.
 use Rattle.std.specs.Prelude.{◌≡◌, ℕ, ◌+◌, ◌/◌, ◌%◌, ◌≤◌, ◌↔◌, List, [], ◌∷◌, ◌++◌, length, Ok, Result}
-use Rattle.std.specs.List.{AllByRecursion as All}
+use Rattle.std.specs.List.{AllByRecursion}
 use Rattle.system.specs.Systems.{System, OverRelays, OverVariables, Rising}
 use Rattle.faults.specs.declared.case.CaseFault.{CaseFault}
 use Rattle.lists.specs.Spelling.{spell_clauses}
@@ -31,9 +31,9 @@ pub record Admitted (c : System) : Type 0 where
   pub inputs : c.m ≤ 64
   pub few : (length c.start ≤ 256) × (length c.step ≤ 1024) × (length c.safety ≤ 256)
   pub short : length (spell c) ≤ 32768
-  pub start_clauses : All (λ d. OverRelays c.n d × Rising d) c.start
-  pub step_clauses : All (λ d. OverVariables c.n c.m d × Rising d) c.step
-  pub safety_clauses : All (λ d. OverRelays c.n d × Rising d) c.safety
+  pub start_clauses : AllByRecursion (λ d. OverRelays c.n d × Rising d) c.start
+  pub step_clauses : AllByRecursion (λ d. OverVariables c.n c.m d × Rising d) c.step
+  pub safety_clauses : AllByRecursion (λ d. OverRelays c.n d × Rising d) c.safety
 
 -- exactly the bytes that spell an admitted system are accepted
 abbrev pub AcceptedAsSpelled : List ℕ → Result (Unit {0}) CaseFault → Type 0

@@ -1,7 +1,7 @@
 -- Transition systems over n relays and m inputs: initial states, steps, runs, safety, and what is inductive.
 -- A state is a number below 2 ^ n whose bit i is relay i.
 use Rattle.std.specs.Prelude.{ℕ, ◌-◌, ◌^◌, ◌<◌, Bool, cond, not, ◌&&◌, ◌||◌, T, List, [], ◌∷◌, nat_le, nat_lt}
-use Rattle.std.specs.List.{AllByRecursion as All}
+use Rattle.std.specs.List.{AllByRecursion}
 use Rattle.system.specs.Literals.{Valuation, bit, variable_of, clauses, Member}
 
 pub record System : Type 0 where
@@ -68,7 +68,7 @@ Inductive c q p = Initiation c p × Consecution c q p
 
 -- a clause over the relays before a step
 abbrev pub OverRelays : ℕ → List ℕ → Type 0
-OverRelays n c = All (λ l. variable_of l < n) c
+OverRelays n c = AllByRecursion (λ l. variable_of l < n) c
 
 -- v is a variable of a system with n relays and m inputs: a relay before a step, a relay after it, or an input
 abbrev pub is_variable : ℕ → ℕ → ℕ → Bool
@@ -76,9 +76,9 @@ is_variable n m v = nat_lt v n || (nat_le 32 v && nat_lt (v - 32) n) || (nat_le 
 
 -- a clause over all the variables of a step
 abbrev pub OverVariables : ℕ → ℕ → List ℕ → Type 0
-OverVariables n m c = All (λ l. T (is_variable n m (variable_of l))) c
+OverVariables n m c = AllByRecursion (λ l. T (is_variable n m (variable_of l))) c
 
 -- the variables of a clause's literals rise, so that none occurs twice
 abbrev pub Rising : List ℕ → Type 0
 Rising [] = Unit {0}
-Rising (l ∷ c) = All (λ k. variable_of l < variable_of k) c × Rising c
+Rising (l ∷ c) = AllByRecursion (λ k. variable_of l < variable_of k) c × Rising c
