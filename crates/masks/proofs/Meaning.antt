@@ -1,11 +1,9 @@
 -- Sets of literals and the clauses that they stand for, under a valuation. Assumes nothing.
-use Rattle.std.proofs.Common.{◌≡◌, ℕ, zero, suc, ◌+◌, ◌*◌, ◌/◌, ◌%◌, ◌^◌, ◌<◌, ◌≤◌, Bool, true, false, cond, not, ◌&&◌, ◌||◌, T, eqb, ◌⊎◌, List, [], ◌∷◌, ◌++◌, map, length, get_or, fold, sym, refl, ap, ◌∙◌, subst, ap₂, subst₂, inl, inr, arith}
+use Rattle.std.proofs.Common.{◌≡◌, ℕ, zero, suc, ◌+◌, ◌/◌, ◌%◌, ◌^◌, ◌<◌, Bool, true, false, not, ◌&&◌, T, eqb, ◌⊎◌, List, [], ◌∷◌, ◌++◌, map, length, get_or, fold, sym, refl, ap, ◌∙◌, subst, subst₂, inl, inr, arith}
 use mathlib.Core.Bool.{beq}
-use lib.Bits.{bit_or}
 use Rattle.std.proofs.lemmas.Bool.{true≢false, cases_Bool, and_parts, and_from, or_cases, or_left, or_right, eq-eqb, eqb-true}
 use Rattle.std.proofs.lemmas.List.{length-map, length-append, get_or-map, get_or_append_left, get_or-append-add}
 use Rattle.system.specs.Literals.{Valuation, bit, literal, clause, clauses}
-use Rattle.system.proofs.Bits.{bit_of_or, bit_pow}
 use Rattle.system.proofs.Truth.{T_of, T_true}
 use Rattle.solver.specs.Answers.{Answered, literals, model}
 use Rattle.solver.specs.declared.answer.Answer.TheVariants.{Yes, No}

@@ -1,11 +1,11 @@
 -- Sets of literals by membership. Assumes nothing.
-use Rattle.std.proofs.Common.{◌≡◌, ℕ, zero, suc, ◌+◌, ◌*◌, ◌/◌, ◌%◌, ◌^◌, ◌<◌, ◌≤◌, Bool, true, false, cond, not, ◌&&◌, ◌||◌, eqb, ◌⊎◌, List, [], ◌∷◌, MatchBool, sym, refl, ap, ◌∙◌, subst, ap₂, inl, inr, mod-eq_of_lt, arith}
+use Rattle.std.proofs.Common.{◌≡◌, ℕ, ◌*◌, ◌%◌, ◌^◌, ◌<◌, Bool, true, false, not, ◌&&◌, ◌||◌, eqb, ◌⊎◌, MatchBool, sym, refl, ap, ◌∙◌, subst, inl, inr, mod-eq_of_lt, arith}
 use mathlib.Core.Bool.{beq, and-true, and-false, or-false}
 use lib.Bits.{bit_and, bit_or}
-use Rattle.std.proofs.lemmas.Bool.{true≢false, cases_Bool, cases_eq, and_parts, and_from, or_cases, or_parts, or_left, or_right, or_from, eq-eqb, ne_eqb, eqb-true, eqb-false, not-true, both_ways}
+use Rattle.std.proofs.lemmas.Bool.{true≢false, cases_Bool, cases_eq, and_parts, and_from, or_cases, or_parts, or_left, or_right, eq-eqb, ne_eqb, eqb-true, not-true}
 use Rattle.std.proofs.lemmas.Nat.{one_shl}
 use Rattle.system.specs.Literals.{bit}
-use Rattle.system.proofs.Bits.{bit_of_and, bit_of_or, bit_none, bit_pow, Lowest, lowest}
+use Rattle.system.proofs.Bits.{bit_of_and, bit_of_or, bit_none, bit_pow, lowest}
 use Rattle.masks.specs.Masks.{inside, none, with_value, Meets, Apart}
 use Rattle.masks.specs.Standings.{Unassigned, Alone, AllFalse}
 use Rattle.masks.specs.declared.mask.ClauseMask.{ClauseMask}

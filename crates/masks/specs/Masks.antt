@@ -1,6 +1,6 @@
 -- A set of literals as two numbers, by bits: the variables that it has plain, and those that it has negated.
 -- It stands for a clause, and for the literals that a partial assignment makes true.
-use Rattle.std.specs.Prelude.{◌≡◌, ℕ, ◌/◌, ◌%◌, ◌^◌, Bool, true, false, cond, not, ◌&&◌, ◌||◌, T, List, fold, ◌==◌, bit_or}
+use Rattle.std.specs.Prelude.{◌≡◌, ℕ, ◌/◌, ◌%◌, ◌^◌, Bool, true, false, cond, not, T, List, fold, ◌==◌, bit_or}
 use Rattle.system.specs.Literals.{Valuation, bit, clauses}
 use Rattle.masks.specs.declared.mask.ClauseMask.{ClauseMask}
 

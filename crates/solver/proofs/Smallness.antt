@@ -2,8 +2,8 @@
 use Rattle.std.proofs.Common.{◌≡◌, ℕ, Bool, true, false, cond, ◌&&◌, ◌||◌, T, ◌↔◌, List, [], ◌∷◌, Some, None, Option, sym, refl, ap, ◌∙◌, subst, MatchOption}
 use mathlib.Core.Bool.{beq}
 use Rattle.std.proofs.lemmas.Bool.{true≢false}
-use Rattle.system.specs.Literals.{Valuation, clauses, literal}
-use Rattle.solver.specs.Answers.{literals, model, Satisfied, Answered, is_yes, fits, AloneAnswered}
+use Rattle.system.specs.Literals.{Valuation}
+use Rattle.solver.specs.Answers.{model, Satisfied, Answered, is_yes, fits, AloneAnswered}
 use Rattle.solver.specs.Laws.{YesExactly, SmallestQuestions}
 use Rattle.solver.specs.declared.answer.Answer.{Answer}
 use Rattle.solver.specs.declared.answer.Answer.TheVariants.{Yes, No}

@@ -1,4 +1,4 @@
-use Rattle.std.proofs.Common.{◌≡◌, Bool, true, false, not, ◌&&◌, ◌||◌, ap, ◌∙◌, ap₂, arith}
+use Rattle.std.proofs.Common.{true, false, not, ◌&&◌, ◌∙◌, ap₂, arith}
 use Rattle.std.proofs.lemmas.Nat.{mod_below}
 use Rattle.system.proofs.Bits.{bit_of_or}
 use Rattle.masks.proofs.Sets.{bit_of}

@@ -1,4 +1,4 @@
-use Rattle.std.proofs.Common.{◌≡◌, ◌/◌, ◌%◌, ◌<◌, eqb, ap, ◌∙◌, mod-eq_of_lt, arith}
+use Rattle.std.proofs.Common.{◌/◌, ◌%◌, ◌<◌, eqb, ap, ◌∙◌, mod-eq_of_lt, arith}
 use Rattle.masks.specs.Masks.{with_value}
 use Rattle.masks.proofs.operations.with_literal.Goals as goal
 

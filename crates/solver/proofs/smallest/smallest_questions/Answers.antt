@@ -1,4 +1,4 @@
-use Rattle.std.proofs.Common.{◌≡◌, [], ◌∷◌, sym, ◌∙◌, subst, subst₂}
+use Rattle.std.proofs.Common.{[], ◌∷◌, ◌∙◌, subst, subst₂}
 use Rattle.solver.specs.Answers.{Answered, AloneAnswered}
 use Rattle.solver.proofs.Smallness.{smallest_questions, empty_alone, either_alone}
 use Rattle.solver.proofs.smallest.smallest_questions.Goals as goal
