@@ -1,6 +1,6 @@
 -- Lists cut into parts: one more part at the end, and one fewer. Assumes nothing.
-use Rattle.std.proofs.Common.{◌≡◌, ℕ, zero, suc, ◌+◌, ◌-◌, ◌<◌, ◌≤◌, true, false, ltb, leb, List, [], ◌∷◌, ◌++◌, map, length, take, drop, vec_items, vec_len, sym, refl, ap, ◌∙◌, subst, ap₂, add-zero, add_assoc, zero-add, arith}
-use Rattle.std.proofs.lemmas.List.{length-append, length-drop, length-take-le, length-map, take_all, take_at, take-append-drop, take-append-le, drop-append-le, nil_from_length, append-nil, length_push}
+use Rattle.std.proofs.Common.{◌≡◌, ℕ, suc, ◌+◌, ◌-◌, ◌<◌, ◌≤◌, true, false, ltb, leb, List, [], ◌∷◌, ◌++◌, length, take, drop, vec_items, vec_len, sym, refl, ap, ◌∙◌, ap₂, add_assoc, arith}
+use Rattle.std.proofs.lemmas.List.{length-drop, length-take-le, take_all, take_at, take-append-drop, take-append-le, drop-append-le, nil_from_length, length_push}
 use Rattle.std.proofs.lemmas.Bool.{and_left, and_right, and_from, le-ltb, lt-leb, lt-ltb, le-leb}
 use Rattle.solver.specs.Answers.{fits}
 use Rattle.system.specs.Literals.{size}

@@ -1,9 +1,8 @@
-use Rattle.std.proofs.Common.{◌≡◌, ℕ, ◌+◌, ◌-◌, ◌<◌, ◌≤◌, true, cond, List, [], ◌∷◌, ◌++◌, map, length, take, is_ok, vec_items, vec_len, sym, refl, ap, ◌∙◌, ap₂, arith}
+use Rattle.std.proofs.Common.{◌≡◌, ◌+◌, true, [], ◌∷◌, ◌++◌, map, length, is_ok, vec_items, vec_len, sym, refl, ap, ◌∙◌, ap₂, arith}
 use Rattle.std.proofs.lemmas.List.{map_push}
 use Rattle.std.proofs.lemmas.Bool.{cond-true}
 use Rattle.masks.specs.Masks.{mask_of}
-use Rattle.storage.specs.Parts.{parts, total}
-use Rattle.storage.specs.Storages.{held_by}
+use Rattle.storage.specs.Parts.{total}
 use Rattle.storage.proofs.Pieces.{fails_first, fails_second, fits_both, grown, total_push}
 use Rattle.storage.proofs.storage.Storage.add.Goals as goal
 
@@ -20,16 +19,14 @@ invariant_of-self c =
     let w = c.args.self.now.whole in
     let q = c.args.self.now.paired in
     let t : total (vec_items c.push_reserved.new.self) ≡ total (vec_items c.args.self.now.lengths) + length c.args.clause.now = ap total c.push_reserved.ensures.items ∙ total_push _ _ in
-    let g = grown c.args.self.now c.args.clause.now _ _ c.push_reserved.ensures.items (c.extend_from_slice.ensures.items ∙ cond-true _ _ _ ok) in (
-      omega arith,
-      (
-        omega arith,
-        (
-          c.push_reserved-2.ensures.items ∙ ap₂ (λ ms m. ms ++ m ∷ []) c.args.self.now.masked c.mask_of-mask.ensures ∙ sym (map_push mask_of _ _) ∙ ap (map mask_of) (sym g),
-          (omega arith, (omega arith, tt)),
-        ),
-      ),
-    )
+    let g = grown c.args.self.now c.args.clause.now _ _ c.push_reserved.ensures.items (c.extend_from_slice.ensures.items ∙ cond-true _ _ _ ok) in
+    record {
+      whole = omega arith;
+      paired = omega arith;
+      masked = c.push_reserved-2.ensures.items ∙ ap₂ (λ ms m. ms ++ m ∷ []) c.args.self.now.masked c.mask_of-mask.ensures ∙ sym (map_push mask_of _ _) ∙ ap (map mask_of) (sym g);
+      within = (omega arith, omega arith);
+      reserved = (omega arith, omega arith, omega arith);
+    }
 
 pub returns : goal.returns
 returns c =
