@@ -1,8 +1,8 @@
 -- Assignments in their order: where no assignment before one serves, and it does not, none before the next does. Assumes nothing.
-use Rattle.std.proofs.Common.{◌≡◌, ℕ, zero, suc, ◌+◌, ◌*◌, ◌/◌, ◌%◌, ◌^◌, ◌<◌, ◌≤◌, Bool, true, false, cond, not, ◌&&◌, ◌||◌, T, ◌⊎◌, List, sym, refl, ap, ◌∙◌, subst, inl, inr, arith, pow_mono}
+use Rattle.std.proofs.Common.{◌≡◌, ℕ, zero, suc, ◌+◌, ◌*◌, ◌/◌, ◌%◌, ◌^◌, ◌<◌, ◌≤◌, Bool, true, false, not, ◌&&◌, ◌||◌, ◌⊎◌, List, sym, ap, ◌∙◌, subst, inl, inr, arith, pow_mono}
 use lib.Bits.{bit_or}
 use Rattle.std.proofs.lemmas.Bool.{cases_Bool, cases_lt, cases_order, true≢false, and_from, and_parts, not-true, or_left, or_right, eq-eqb}
-use Rattle.system.specs.Literals.{Valuation, bit, clauses}
+use Rattle.system.specs.Literals.{Valuation, bit}
 use Rattle.system.proofs.Bits.{bit_none, bit_of_or, bit_above}
 use Rattle.masks.specs.Masks.{inside, Fails, Implied, Apart}
 use Rattle.masks.specs.declared.mask.ClauseMask.{ClauseMask}

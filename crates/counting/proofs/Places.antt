@@ -1,10 +1,9 @@
 -- The step to the next assignment, and the number that rises as assignments go by. Assumes nothing.
-use Rattle.std.proofs.Common.{◌≡◌, ℕ, zero, suc, ◌+◌, ◌-◌, ◌*◌, ◌/◌, ◌%◌, ◌^◌, ◌<◌, ◌≤◌, Bool, true, false, cond, not, ◌&&◌, ◌||◌, eqb, ◌⊎◌, sym, refl, ap, ◌∙◌, subst, ap₂, inl, inr, pow-suc, arith, pow_pos, pow_mono}
+use Rattle.std.proofs.Common.{◌≡◌, ℕ, zero, suc, ◌+◌, ◌-◌, ◌*◌, ◌%◌, ◌^◌, ◌<◌, ◌≤◌, Bool, true, false, cond, ◌||◌, eqb, refl, ap, ◌∙◌, ap₂, pow-suc, arith, pow_mono}
 use mathlib.Core.Bool.{or-false}
 use lib.Bits.{bit_or}
 use lib.Count.{count_leading_zeros, leading_top}
-use lib.Pow.{field, mod-mod-pow}
-use Rattle.std.proofs.lemmas.Nat.{le-div, div_below, mod_below, one_shl}
+use Rattle.std.proofs.lemmas.Nat.{one_shl}
 use Rattle.std.proofs.lemmas.Bool.{eq-eqb, ne_eqb, or_right, or_from}
 use Rattle.system.specs.Literals.{bit}
 use Rattle.system.proofs.Bits.{bit_of_or, bit_pow, bit_above, bit_top, low_bits, high_bits}

@@ -1,5 +1,5 @@
 -- The order of the assignments, and which clauses are asked about.
-use Rattle.std.specs.Prelude.{◌≡◌, ℕ, zero, suc, ◌+◌, ◌^◌, ◌<◌, Bool, true, false, cond, not, ◌⊎◌, List, length, slice_index, slice_index_or}
+use Rattle.std.specs.Prelude.{◌≡◌, ℕ, zero, suc, ◌+◌, ◌^◌, ◌<◌, Bool, true, false, cond, ◌⊎◌, List, length, slice_index, slice_index_or}
 use Rattle.system.specs.Literals.{Valuation, bit}
 use Rattle.masks.specs.Masks.{inside, Apart}
 use Rattle.masks.specs.Questions.{unit}

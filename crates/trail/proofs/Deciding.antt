@@ -1,16 +1,12 @@
 -- Lists of decisions: what one more does, distinct variables, and the literals that they make true. Assumes nothing.
-use Rattle.std.proofs.Common.{◌≡◌, ℕ, zero, suc, ◌+◌, ◌-◌, ◌*◌, ◌/◌, ◌%◌, ◌^◌, ◌<◌, ◌≤◌, Bool, true, false, cond, not, ◌&&◌, ◌||◌, eqb, ◌⊎◌, List, [], ◌∷◌, ◌++◌, length, get_or, take, drop, set, MatchBool, sym, refl, ap, ◌∙◌, subst, ap₂, subst₂, inl, inr, mod-eq_of_lt, arith}
-use mathlib.Core.Bool.{beq, or-false, or_assoc, or_comm}
-use mathlib.Core.Path.{subst₃}
-use Rattle.std.proofs.lemmas.List.{take-take, take-append-le, take_at, get_or_append_left, get_or_push, length_push, get_or-take, length-take-le, set_split, drop_all}
-use Rattle.std.proofs.lemmas.Bool.{true≢false, cases_Bool, cases_eq, cases_lt, and_parts, and_from, or_cases, or_parts, or_left, or_right, or_from, eq-eqb, ne_eqb, eqb-true, eqb-false, not-true, not_from_false, cond-true, cond-false}
+use Rattle.std.proofs.Common.{◌≡◌, ℕ, zero, suc, ◌+◌, ◌%◌, ◌<◌, ◌≤◌, Bool, true, false, cond, not, ◌&&◌, ◌||◌, eqb, ◌⊎◌, List, [], ◌∷◌, ◌++◌, length, get_or, take, set, MatchBool, sym, refl, ap, ◌∙◌, subst, ap₂, inl, inr, mod-eq_of_lt, arith}
+use mathlib.Core.Bool.{beq, or-false, or_assoc}
+use Rattle.std.proofs.lemmas.List.{take-take, length-take-le, set_split, drop_all}
+use Rattle.std.proofs.lemmas.Bool.{true≢false, cases_Bool, cases_eq, and_parts, and_from, or_cases, or_parts, or_left, or_right, or_from, eq-eqb, ne_eqb, eqb-true, not-true, not_from_false, cond-true, cond-false}
 use Rattle.trail.specs.Decisions.{has, Free, distinct, Spells}
-use Rattle.trail.specs.Reasons.{Reason, Because, Sound, digit, height}
 use Rattle.masks.specs.Masks.{inside, with_value}
 use Rattle.masks.specs.declared.mask.ClauseMask.{ClauseMask}
 use Rattle.trail.specs.declared.decision.Decision.{Decision}
-use Rattle.trail.specs.declared.decision.Forcing.{Forcing}
-use Rattle.trail.specs.declared.decision.Forcing.TheVariants.{Assumed, Chosen, Forced}
 use Rattle.masks.specs.Standings.{Unassigned}
 use Rattle.masks.proofs.Sets.{clash, beq_same, beq_true, not_opposite, not_in_variables, with_inside}
 

@@ -1,17 +1,12 @@
 -- Why the decisions of a trail stand, with one more or cut short, and the number that rises. Assumes nothing.
-use Rattle.std.proofs.Common.{◌≡◌, ℕ, zero, suc, ◌+◌, ◌-◌, ◌*◌, ◌/◌, ◌%◌, ◌^◌, ◌<◌, ◌≤◌, Bool, true, false, cond, not, ◌&&◌, ◌||◌, eqb, ◌⊎◌, List, [], ◌∷◌, ◌++◌, length, get_or, take, drop, set, sym, refl, ap, ◌∙◌, subst, ap₂, subst₂, inl, inr, pow-suc, arith}
-use mathlib.Core.Bool.{beq, or-false, or_assoc, or_comm}
+use Rattle.std.proofs.Common.{◌≡◌, ℕ, zero, suc, ◌*◌, ◌^◌, ◌<◌, ◌≤◌, Bool, ◌⊎◌, List, [], ◌∷◌, ◌++◌, length, get_or, take, sym, ap, subst₂, inl, inr, pow-suc, arith}
 use mathlib.Core.Path.{subst₃}
-use Rattle.std.proofs.lemmas.List.{take-take, take-append-le, take_at, get_or_append_left, get_or_push, length_push, get_or-take, length-take-le, set_split, drop_all}
-use Rattle.std.proofs.lemmas.Bool.{true≢false, cases_Bool, cases_eq, cases_lt, and_parts, and_from, or_cases, or_parts, or_left, or_right, or_from, eq-eqb, ne_eqb, eqb-true, eqb-false, not-true, not_from_false, cond-true, cond-false}
-use Rattle.trail.specs.Decisions.{has, Free, distinct, Spells}
+use Rattle.std.proofs.lemmas.List.{take-take, take-append-le, take_at, get_or_append_left, get_or_push, length_push, get_or-take, length-take-le}
+use Rattle.std.proofs.lemmas.Bool.{cases_lt}
 use Rattle.trail.specs.Reasons.{Reason, Because, Sound, digit, height}
-use Rattle.masks.specs.Masks.{inside}
-use Rattle.masks.specs.declared.mask.ClauseMask.{ClauseMask}
 use Rattle.trail.specs.declared.decision.Decision.{Decision}
 use Rattle.trail.specs.declared.decision.Forcing.{Forcing}
 use Rattle.trail.specs.declared.decision.Forcing.TheVariants.{Assumed, Chosen, Forced}
-use Rattle.masks.proofs.Sets.{clash, beq_same, beq_true, not_opposite}
 
 -- why the decisions stand
 pub sound_none : (base : List (List ℕ)) (ds : List Decision) → ds ≡ [] → Sound base ds

@@ -1,4 +1,4 @@
-use Rattle.std.proofs.Common.{◌≡◌, ℕ, ◌/◌, ◌<◌, true, false, ◌||◌, length, get_or, sym, subst, inl, inr, arith, below_more}
+use Rattle.std.proofs.Common.{◌≡◌, ℕ, ◌/◌, ◌<◌, true, false, ◌||◌, get_or, sym, subst, inl, inr, arith, below_more}
 use Rattle.system.specs.Literals.{bit}
 use Rattle.masks.specs.declared.mask.ClauseMask.{ClauseMask}
 use Rattle.std.proofs.lemmas.List.{get_or_default}

@@ -1,4 +1,4 @@
-use Rattle.std.proofs.Common.{◌≡◌, ℕ, ◌<◌, Bool, true, get_or}
+use Rattle.std.proofs.Common.{ℕ, ◌<◌, get_or}
 use Rattle.masks.specs.Questions.{unit}
 use Rattle.masks.specs.declared.mask.ClauseMask.{ClauseMask}
 use Rattle.counting.specs.Orders.{Within}

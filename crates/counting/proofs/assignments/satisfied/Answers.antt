@@ -1,4 +1,4 @@
-use Rattle.std.proofs.Common.{◌≡◌, get_or, sym, refl, subst, inl, inr, arith, below_more}
+use Rattle.std.proofs.Common.{subst, inl, inr, arith, below_more}
 use Rattle.std.proofs.lemmas.List.{get_or_default}
 use Rattle.masks.specs.Masks.{none, Meets}
 use Rattle.counting.proofs.assignments.satisfied.Goals as goal

@@ -1,4 +1,4 @@
-use Rattle.std.proofs.Common.{◌≡◌, ◌%◌, get_or, sym, ap, ◌∙◌, subst}
+use Rattle.std.proofs.Common.{◌%◌, get_or, sym, ap, ◌∙◌, subst}
 use Rattle.std.proofs.lemmas.List.{take_more, take_all}
 use Rattle.masks.specs.Masks.{with_value}
 use Rattle.masks.proofs.Sets.{inside_none}

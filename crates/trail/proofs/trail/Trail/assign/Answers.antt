@@ -1,4 +1,4 @@
-use Rattle.std.proofs.Common.{◌≡◌, sym, refl, ap, ◌∙◌, subst, arith}
+use Rattle.std.proofs.Common.{sym, refl, ap, ◌∙◌, subst, arith}
 use Rattle.trail.specs.Decisions.{Spells, distinct, Free}
 use Rattle.trail.specs.Entries.{entries}
 use Rattle.trail.proofs.Deciding.{spells_push, distinct_push, place}
@@ -17,15 +17,14 @@ push_reserved-requires c =
 
 pub invariant_of-self : goal.invariant_of-self
 invariant_of-self c =
-    let free = c.if-not-is_free.ensures in (
-      subst (Spells c.with_value-self.result) (sym c.push_reserved.ensures.items)
-          (spells_push c.args.self.now.assigned c.with_value-self.result (entries c.args.self.now) _ c.args.self.now.spelled c.with_value-self.ensures),
-      (
-        ap distinct c.push_reserved.ensures.items
-            ∙ distinct_push (entries c.args.self.now) _ c.args.self.now.once (λ b. sym (c.args.self.now.spelled c.args.variable b) ∙ free.1 b),
-        (omega (arith, c.args.self.now.space, c.push_reserved.ensures.capacity), tt),
-      ),
-    )
+    let free = c.if-not-is_free.ensures in
+    record {
+      spelled = subst (Spells c.with_value-self.result) (sym c.push_reserved.ensures.items)
+          (spells_push c.args.self.now.assigned c.with_value-self.result (entries c.args.self.now) _ c.args.self.now.spelled c.with_value-self.ensures);
+      once = ap distinct c.push_reserved.ensures.items
+          ∙ distinct_push (entries c.args.self.now) _ c.args.self.now.once (λ b. sym (c.args.self.now.spelled c.args.variable b) ∙ free.1 b);
+      space = omega (arith, c.args.self.now.space, c.push_reserved.ensures.capacity);
+    }
 
 pub returns : goal.returns
 returns c =

@@ -1,4 +1,4 @@
-use Rattle.std.proofs.Common.{◌≡◌, ℕ, ◌-◌, ◌<◌, Bool, length, take, sym, refl, ap, ◌∙◌, ap₂, arith}
+use Rattle.std.proofs.Common.{◌<◌, length, take, sym, refl, ap, ◌∙◌, ap₂, arith}
 use native.Mathlib.Nat.{sub-zero}
 use Rattle.trail.specs.Decisions.{has, Spells, distinct}
 use Rattle.trail.specs.Entries.{entries}
@@ -18,13 +18,12 @@ invariant_of-self c =
     let w : c.args.at < length ds = omega (arith, c.if-at-len.false, c.len.ensures, c.args.self.now.decisions.ok.0) in
     let kept : Spells c.spelled-before.result (take c.args.at ds) =
     λ j b. c.spelled-before.ensures j b ∙ ap₂ (λ n xs. has (take n xs) j b) (sub-zero c.args.at) c.as_slice.ensures.value in
-    let is = changed ds _ c.args.at _ w c.truncate.ensures.items in (
-      (λ j b. spells_push c.spelled-before.result c.with_value-self.result (take c.args.at ds) _ kept c.with_value-self.ensures j b ∙ ap (λ xs. has xs j b) (sym is)),
-      (
-        ap distinct is ∙ distinct_push (take c.args.at ds) _ (distinct_take ds c.args.at c.args.self.now.once) (λ b. sym (kept c.args.variable b) ∙ free.1 b),
-        (omega (arith, c.args.self.now.space, c.truncate.ensures.capacity), tt),
-      ),
-    )
+    let is = changed ds _ c.args.at _ w c.truncate.ensures.items in
+    record {
+      spelled = λ j b. spells_push c.spelled-before.result c.with_value-self.result (take c.args.at ds) _ kept c.with_value-self.ensures j b ∙ ap (λ xs. has xs j b) (sym is);
+      once = ap distinct is ∙ distinct_push (take c.args.at ds) _ (distinct_take ds c.args.at c.args.self.now.once) (λ b. sym (kept c.args.variable b) ∙ free.1 b);
+      space = omega (arith, c.args.self.now.space, c.truncate.ensures.capacity);
+    }
 
 pub returns : goal.returns
 returns c =
