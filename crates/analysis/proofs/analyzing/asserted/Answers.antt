@@ -1,4 +1,4 @@
-use Rattle.std.proofs.Common.{◌≡◌, get_or, sym, ap, ◌∙◌, subst, arith}
+use Rattle.std.proofs.Common.{ap, ◌∙◌, arith}
 use Rattle.std.proofs.lemmas.List.{get_or_default}
 use Rattle.trail.specs.declared.decision.Decision.{Decision}
 use Rattle.analysis.proofs.Resolving.{asserts, asserts_here, chosen_at, needed_bit}

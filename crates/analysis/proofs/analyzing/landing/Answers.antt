@@ -1,4 +1,4 @@
-use Rattle.std.proofs.Common.{◌≡◌, ◌*◌, ◌%◌, ◌^◌, ◌<◌, true, not, ◌&&◌, length, sym, ap, ◌∙◌, subst, inl, inr, arith}
+use Rattle.std.proofs.Common.{◌≡◌, ◌*◌, ◌%◌, ◌^◌, ◌<◌, not, ◌&&◌, length, ap, ◌∙◌, subst, inl, inr, arith}
 use Rattle.system.specs.Literals.{bit}
 use Rattle.system.proofs.Bits.{bit_none}
 use Rattle.trail.specs.declared.decision.Decision.{Decision}

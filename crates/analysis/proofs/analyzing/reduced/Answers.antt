@@ -1,4 +1,4 @@
-use Rattle.std.proofs.Common.{◌≡◌, Bool, not, ◌&&◌, ◌||◌, eqb, sym, ap, ◌∙◌, ap₂, mod-eq_of_lt}
+use Rattle.std.proofs.Common.{not, ◌&&◌, ◌||◌, eqb, sym, ap, ◌∙◌, ap₂, mod-eq_of_lt}
 use Rattle.masks.specs.Masks.{inside}
 use Rattle.analysis.specs.Conflicts.{reason_of}
 use Rattle.analysis.proofs.Resolving.{no_reason}
