@@ -9,7 +9,7 @@ use Rattle.masks.specs.Questions.{Each, Given}
 use Rattle.masks.specs.Standings.{Alone, AllFalse, Unassigned}
 use Rattle.masks.specs.declared.mask.ClauseMask.{ClauseMask}
 use Rattle.masks.proofs.Sets.{clash, in_variables, not_in_variables}
-use Rattle.trail.specs.Decisions.{has, Free, Spells}
+use Rattle.trail.specs.Decisions.{Free, Spells}
 use Rattle.trail.specs.Reasons.{Refuted, Sound, height}
 use Rattle.trail.specs.declared.decision.Decision.{Decision}
 use Rattle.trail.specs.declared.decision.Forcing.TheVariants.{Forced}

@@ -1,4 +1,4 @@
-use Rattle.std.proofs.Common.{◌≡◌, sym, ◌∙◌, subst}
+use Rattle.std.proofs.Common.{sym, ◌∙◌, subst}
 use Rattle.masks.specs.Questions.{Each}
 use Rattle.trail.specs.Entries.{entries}
 use Rattle.trail.specs.Reasons.{Sound}

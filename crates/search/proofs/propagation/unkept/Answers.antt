@@ -1,5 +1,5 @@
-use Rattle.std.proofs.Common.{◌≡◌, sym, ap, ◌∙◌, subst, below_more}
-use Rattle.masks.specs.Masks.{Meets, Implied, none}
+use Rattle.std.proofs.Common.{sym, subst, below_more}
+use Rattle.masks.specs.Masks.{Meets, Implied}
 use Rattle.search.proofs.propagation.unkept.Goals as goal
 
 pub loop-literal-preserved : goal.loop-literal-preserved

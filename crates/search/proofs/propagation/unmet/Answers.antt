@@ -1,4 +1,4 @@
-use Rattle.std.proofs.Common.{◌≡◌, sym, ap, ◌∙◌, subst, below_more}
+use Rattle.std.proofs.Common.{subst, below_more}
 use Rattle.std.proofs.lemmas.List.{get_or_default}
 use Rattle.masks.specs.Masks.{Meets, none}
 use Rattle.search.proofs.propagation.unmet.Goals as goal

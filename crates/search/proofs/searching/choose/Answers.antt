@@ -1,4 +1,4 @@
-use Rattle.std.proofs.Common.{◌≡◌, ◌^◌, ◌<◌, false, [], sym, subst, arith}
+use Rattle.std.proofs.Common.{◌^◌, ◌<◌, false, [], sym, subst, arith}
 use Rattle.system.proofs.Bits.{lowest}
 use Rattle.trail.specs.Entries.{entries}
 use Rattle.trail.specs.Reasons.{Sound, height}

@@ -1,4 +1,4 @@
-use Rattle.std.proofs.Common.{◌≡◌, ◌<◌, ◌≤◌, length, take, sym, ap, subst, arith}
+use Rattle.std.proofs.Common.{◌<◌, ◌≤◌, length, take, sym, ap, subst, arith}
 use Rattle.trail.specs.Entries.{entries}
 use Rattle.trail.specs.Reasons.{Sound, height, digit}
 use Rattle.trail.specs.declared.decision.Forcing.TheVariants.{Forced}

@@ -1,4 +1,4 @@
-use Rattle.std.proofs.Common.{◌≡◌, vec_items, sym, subst}
+use Rattle.std.proofs.Common.{vec_items, sym, subst}
 use Rattle.masks.specs.Questions.{Each}
 use Rattle.search.proofs.Stepping.{each_push}
 use Rattle.search.proofs.learned.Learned.remember.Goals as goal

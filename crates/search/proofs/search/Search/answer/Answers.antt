@@ -1,4 +1,4 @@
-use Rattle.std.proofs.Common.{◌≡◌, ◌/◌, ◌%◌, ◌^◌, vec_items, sym, ap, ◌∙◌, subst}
+use Rattle.std.proofs.Common.{◌/◌, ◌%◌, ◌^◌, vec_items, sym, ap, ◌∙◌, subst}
 use Rattle.solver.specs.Answers.{Answered}
 use Rattle.solver.specs.declared.answer.Answer.TheVariants.{Yes}
 use Rattle.masks.specs.declared.mask.ClauseMask.{ClauseMask}
