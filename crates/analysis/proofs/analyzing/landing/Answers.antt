@@ -15,8 +15,9 @@ loop-i-preserved c j t =
 
 pub returns-in-Chosen : goal.returns-in-Chosen
 returns-in-Chosen c =
-    let h : c.loop-i.i < length c.args.decisions.now = omega arith in (
+    let h : c.loop-i.i < length c.args.decisions.now = omega arith in
+    let z : c.loop-i.rest ≡ 0 = omega arith in (
       omega arith,
       chosen_at c.args.decisions.now c.loop-i.i c.index-decisions-i.result h c.index-decisions-i.is c.in-Chosen.is,
-      λ j t. elim (c.loop-i.invariant j t) [ inl o ↦ clash (bit c.loop-i.rest j) o (ap (λ x. bit x j) c.if-rest-eq0.true ∙ bit_none j) | inr n ↦ n ],
+      λ j t. elim (c.loop-i.invariant j t) [ inl o ↦ clash (bit c.loop-i.rest j) o (ap (λ x. bit x j) z ∙ bit_none j) | inr n ↦ n ],
     )
