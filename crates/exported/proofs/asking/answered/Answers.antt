@@ -1,4 +1,4 @@
-use Rattle.std.proofs.Common.{◌≡◌, ◌++◌, length, refl, ap, ◌∙◌, subst₂}
+use Rattle.std.proofs.Common.{◌++◌, length, refl, ap, ◌∙◌, subst₂}
 use Rattle.lists.specs.Lists.{clauses_of}
 use Rattle.lists.proofs.Spelled.{clauses_length}
 use Rattle.exported.specs.Replies.{Replied}

@@ -1,4 +1,4 @@
-use Rattle.std.proofs.Common.{◌≡◌, ℕ, ◌<◌, ◌≤◌, List, [], length, get_or, sym, ap, ◌∙◌, subst, subst₂, arith}
+use Rattle.std.proofs.Common.{ℕ, ◌<◌, List, length, sym, ◌∙◌, subst₂, arith}
 use Rattle.lists.specs.Lists.{clauses_of}
 use Rattle.solver.specs.Answers.{Answered}
 use Rattle.exported.proofs.Walks.{left_first, left_rest, left_none, told_more}

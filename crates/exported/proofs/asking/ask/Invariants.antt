@@ -1,4 +1,4 @@
-use Rattle.std.proofs.Common.{◌≡◌, ℕ, ◌<◌, [], length, get_or, drop}
+use Rattle.std.proofs.Common.{◌≡◌, ℕ, ◌<◌, [], get_or, drop}
 use Rattle.lists.specs.Lists.{clauses_of}
 use Rattle.exported.specs.Replies.{Told}
 use Rattle.exported.specs.declared.reply.Reply.{Reply}

@@ -1,4 +1,4 @@
-use Rattle.std.proofs.Common.{◌≡◌, ℕ, List, ◌++◌}
+use Rattle.std.proofs.Common.{◌++◌}
 use Rattle.lists.specs.Lists.{clauses_of}
 use Rattle.exported.proofs.Walks.{held_more}
 use Rattle.exported.proofs.asking.load.Goals as goal
