@@ -3,9 +3,9 @@
 # With `differ N`: asks N small random lists of both solvers and of PicoSAT instead.
 set -eu
 cd "$(dirname "$0")/.."
-rt staticlib exported >/dev/null 2>&1
-kit=$(dirname "$(dirname "$(rt doc)")")
+(cd crates/exported && rt lib >/dev/null 2>&1)
+kit=$(dirname "$(rt doc)")
 mkdir -p target/bench
 g++ -std=c++17 -O2 -Wall bench/main.cpp bench/families.cpp bench/peers.cpp \
-    target/staticlib/libexported.a "$kit/lib/librattle_c.a" -lpicosat -lminisat -o target/bench/bench
+    crates/exported/out/libexported.a "$kit/c/liblibc_c.a" -lpicosat -lminisat -o target/bench/bench
 exec target/bench/bench "$@"
