@@ -1,40 +1,33 @@
 -- Where the lists and clauses of a system lie in its bytes. Assumes nothing.
-use Rattle.std.proofs.Common.{◌≡◌, ℕ, ◌+◌, ◌-◌, ◌≤◌, List, [], ◌∷◌, ◌++◌, length, take, drop, sym, refl, ap, ◌∙◌, arith}
-use Rattle.std.proofs.lemmas.List.{append_assoc, append-nil, length-append, take-append-drop, take_at, drop_at, drop-drop, take_rest}
+use Rattle.std.proofs.Common.{◌≡◌, ℕ, zero, suc, ◌+◌, ◌<◌, ◌≤◌, List, [], ◌∷◌, ◌++◌, length, get_or, take, drop, sym, refl, ap, ◌∙◌, arith, length-take}
+use Rattle.std.proofs.lemmas.List.{append_assoc, append-nil, length-append, take-append-drop, take_at, drop_at, drop-drop, drop_more, take_rest}
 use Rattle.system.specs.Systems.{System}
 use Rattle.faults.specs.declared.case.ListName.{ListName}
 use Rattle.faults.specs.declared.case.ListName.TheVariants.{Start, Step, Safety}
-use Rattle.lists.specs.Spelling.{spell_clauses}
-use Rattle.lists.proofs.Spelled.{spell_append}
-use Rattle.layout.specs.Spelling.{step_at, safety_at, spell, Admitted}
-use Rattle.layout.specs.Reading.{field, step_place, safety_place, system_in}
-use Rattle.layout.specs.Sound.{Sound}
-use Rattle.cases.specs.Answers.{list_of, beginning}
-use Rattle.layout.proofs.Law.{spelled_length, lengths}
+use Rattle.faults.specs.Refusals.{count_place, offset_place}
+use Rattle.system.specs.Literals.{size}
+use Rattle.lists.specs.Spelling.{clause_at, after_clause, clauses_in, spell_clauses}
+use Rattle.lists.proofs.Spelled.{spell_append, clauses_spelled}
+use Rattle.layout.specs.Spelling.{step_at, spell, Admitted}
+use Rattle.layout.specs.Reading.{field}
+use Rattle.cases.specs.Answers.{list_of, beginning, ClauseOf}
+use Rattle.cases.specs.declared.answers.Clause.{Clause}
+use Rattle.layout.proofs.Law.{spelled_length, field_relays, field_inputs, field_start, field_step, field_safety, start_begins, step_begins, safety_begins}
 
--- what the header says of the lists
-module _ (bs : List ℕ) (s : Sound bs) where
-  pub step_cut : take (length bs - field bs 12) (drop (field bs 12) bs) ≡ drop (step_place bs) bs
-  step_cut = take_rest bs (field bs 12) ∙ ap (λ k. drop k bs) s.step.offset
+-- clauses take as many bytes as they have literals, and a length byte each
+spelled_size : (cs : List (List ℕ)) → length (spell_clauses cs) ≡ length cs + size cs
+spelled_size [] = refl
+spelled_size (d ∷ ds) = let h = spelled_size ds in let e = length-append d (spell_clauses ds) in omega arith
 
-  pub safety_cut : take (length bs - field bs 14) (drop (field bs 14) bs) ≡ drop (safety_place bs) bs
-  safety_cut = take_rest bs (field bs 14) ∙ ap (λ k. drop k bs) s.safety.offset
-
-  pub step_begins : field bs 12 ≡ step_at (system_in bs)
-  step_begins = let l = lengths bs s in s.step.offset ∙ omega (arith, l.all, l.first, l.step_place_is)
-
-  pub safety_begins : field bs 14 ≡ safety_at (system_in bs)
-  safety_begins = let l = lengths bs s in s.safety.offset ∙ omega (arith, l.all, l.first, l.second, l.safety_place_is)
-
--- one more clause of a list passed
-pub spell_more : (cs : List (List ℕ)) (k : ℕ) (d : List ℕ) → take (k + 1) cs ≡ take k cs ++ d ∷ [] → length (spell_clauses (take (k + 1) cs)) ≡ length (spell_clauses (take k cs)) + (1 + length d)
-spell_more cs k d e =
-    let f = ap (λ xs. length (spell_clauses xs)) e ∙ ap length (spell_append (take k cs) (d ∷ [])) ∙ length-append (spell_clauses (take k cs)) (spell_clauses (d ∷ [])) in
-    let g = length-append d [] in
-    omega arith
+-- fewer clauses are the first of more
+clauses_front : (k n : ℕ) (bs : List ℕ) → k ≤ n → clauses_in k bs ≡ take k (clauses_in n bs)
+unfolding clauses_in
+clauses_front zero n bs h = refl
+clauses_front (suc k) zero bs h = absurd (let z : ⊥ = omega arith in z)
+clauses_front (suc k) (suc n) bs h = ap (λ ds. clause_at bs ∷ ds) (clauses_front k n (after_clause bs) (omega arith))
 
 module _ (c : System) where
-  list_ends : (list : ListName) → beginning list c + length (spell_clauses (list_of list c)) ≤ length (spell c)
+  pub list_ends : (list : ListName) → beginning list c + length (spell_clauses (list_of list c)) ≤ length (spell c)
   list_ends Start = let l = spelled_length c in omega arith
   list_ends Step = let l = spelled_length c in omega arith
   list_ends Safety = let l = spelled_length c in omega arith
@@ -67,8 +60,22 @@ module _ (c : System) where
       ∙ drop_at (spell_clauses c.step) (spell_clauses c.safety) _ refl
       ∙ sym (append-nil (spell_clauses c.safety))
 
+  -- what the header says of a list, and the clauses that lie where it begins
+  pub counted : (list : ListName) → field (spell c) (count_place list) ≡ length (list_of list c)
+  counted Start = field_start c
+  counted Step = field_step c
+  counted Safety = field_safety c
+
+  pub begins : (list : ListName) → field (spell c) (offset_place list) ≡ beginning list c
+  begins Start = start_begins c
+  begins Step = step_begins c
+  begins Safety = safety_begins c
+
+  pub listed : (list : ListName) → clauses_in (length (list_of list c)) (drop (beginning list c) (spell c)) ≡ list_of list c
+  listed list = ap (clauses_in (length (list_of list c))) (list_lies list) ∙ clauses_spelled (list_of list c) (following list)
+
   -- a clause is the part of the bytes that begins at its place
-  pub clause_lies : (list : ListName) (j : ℕ) (d : List ℕ) (rest : List (List ℕ)) → drop j (list_of list c) ≡ d ∷ rest → (at : ℕ) → at ≡ beginning list c + length (spell_clauses (take j (list_of list c))) + 1 → take (length d) (drop at (spell c)) ≡ d
+  clause_lies : (list : ListName) (j : ℕ) (d : List ℕ) (rest : List (List ℕ)) → drop j (list_of list c) ≡ d ∷ rest → (at : ℕ) → at ≡ beginning list c + length (spell_clauses (take j (list_of list c))) + 1 → take (length d) (drop at (spell c)) ≡ d
   clause_lies list j d rest e at p =
       let cs = list_of list c in
       let a = spell_clauses (take j cs) in
@@ -84,3 +91,36 @@ module _ (c : System) where
       ∙ sym (drop-drop 1 (length a) (a ++ (x ++ following list)))
       ∙ ap (drop 1) (drop_at a (x ++ following list) (length a) refl) in
       ap (take (length d)) (from ∙ append_assoc d (spell_clauses rest) (following list)) ∙ take_at d _ (length d) refl
+
+  -- how many bytes the clauses before one take, as they are listed from the beginning of the list on
+  pub before_size : (list : ListName) (j : ℕ) → j < length (list_of list c) → (bs : List ℕ) → bs ≡ drop (beginning list c) (spell c) → j + size (clauses_in j bs) ≡ length (spell_clauses (take j (list_of list c)))
+  before_size list j h bs e =
+      let cs = list_of list c in
+      let are = clauses_front j (length cs) bs (omega arith) ∙ ap (λ xs. take j (clauses_in (length cs) xs)) e ∙ ap (take j) (listed list) in
+      omega (arith, ap size are, spelled_size (take j cs), length-take j cs)
+
+  -- a list begins within the bytes with room for its clauses, and so do those before one of them
+  pub list_fits : Admitted c → (list : ListName) → beginning list c + length (list_of list c) ≤ 32768
+  list_fits a list = let h = a.short in omega (arith, list_ends list, spelled_size (list_of list c))
+
+  pub before_fits : Admitted c → (list : ListName) (j : ℕ) → j < length (list_of list c) → (bs : List ℕ) → bs ≡ drop (beginning list c) (spell c) → beginning list c + (j + size (clauses_in j bs)) ≤ 32768
+  before_fits a list j h bs e = omega (arith, before_size list j h bs e, front_ends a list j)
+
+  -- a clause by its number, past those before it
+  pub clause_found : (list : ListName) (j : ℕ) (d : Clause) → j < length (list_of list c) → d.literals.now ≡ get_or (list_of list c) j [] → d.at ≡ beginning list c + length (spell_clauses (take j (list_of list c))) + 1 → ClauseOf list c j d
+  clause_found list j d h e p =
+      record {
+        there = h;
+        literals = e;
+        place = p;
+        part = clause_lies list j d.literals.now (drop (j + 1) (list_of list c)) (rw e (drop_more (list_of list c) j [] h)) d.at p;
+      }
+
+-- what each answer of a case needs
+pub ruleset header_says = (field_relays, field_inputs, begins)
+
+pub ruleset lists = (counted, listed)
+
+pub ruleset sections = (list_ends, take_rest)
+
+pub ruleset before = (before_size, before_fits, list_fits)

@@ -1,24 +1,10 @@
--- The system that a case means, and what reading promises.
-use Rattle.std.specs.Prelude.{◌≡◌, ℕ, true, ◌⊎◌, ◌↔◌, List, Ok, Err, vec_items, Result, ◌≢◌}
+-- What reading a case promises, where a case stands for its system.
+use Rattle.std.specs.Prelude.{◌≡◌, ℕ, true, ◌⊎◌, ◌↔◌, List, Ok, Err, Result, ◌≢◌}
 use Rattle.system.specs.Systems.{System}
 use Rattle.faults.specs.declared.case.CaseFault.{CaseFault}
 use Rattle.faults.specs.declared.case.CaseFault.TheVariants.{NoMemory}
 use Rattle.layout.specs.Spelling.{spell, Admitted}
-use Rattle.layout.specs.Reading.{system_in, accepted, read_case}
-use Rattle.cases.specs.declared.case.Case.{Case}
-
--- the bytes that a case keeps
-abbrev pub bytes_of : Case → List ℕ
-bytes_of case = vec_items case.bytes
-
--- the system that they spell
-unfoldable pub system_of : Case → System
-system_of case = system_in (bytes_of case)
-
--- what a result of reading means: a system, or the fault
-abbrev pub meant : Result Case CaseFault → Result System CaseFault
-meant (Ok case) = Ok (system_of case)
-meant (Err f) = Err f
+use Rattle.layout.specs.Reading.{accepted, read_case}
 
 -- reading means what the definition gives, or memory was wanting for bytes without a fault
 abbrev pub Read : List ℕ → Result System CaseFault → Type 0

@@ -1,12 +1,20 @@
 // A case that was read.
-ghost use Rattle.std.specs.Prelude.{◌≡◌, true};
-ghost use Rattle.layout.specs.Reading.{accepted, system_in};
-ghost use Rattle.layout.specs.Spelling.{spell};
+use std::marker::Model;
 
-// The bytes of a system: reading found no fault in them, and they spell it.
+// The bytes of an admitted system. A clause sees a case as that system.
 #[derive(Drop)]
 pub struct Case {
     pub(crate) bytes: Vec<u8>,
-    ghost sound: { accepted bytes.items ≡ true },
-    ghost spelled: { bytes.items ≡ spell (system_in bytes.items) },
+}
+
+impl Model for Case {
+    ghost use Rattle.system.specs.Systems.{System};
+    ghost use Rattle.layout.specs.Reading.{system_in};
+    ghost use Rattle.cases.specs.Kept.{Kept};
+
+    ghost Value = { System };
+
+    ghost view = { λ case. system_in case.bytes.items };
+
+    ghost invariant = { λ case. Kept case.bytes.items };
 }

@@ -1,5 +1,5 @@
 // Reading a case.
-ghost use Rattle.cases.specs.Meaning.{meant, Read, ReadAsSpelled};
+ghost use Rattle.cases.specs.Meaning.{Read, ReadAsSpelled};
 
 use crate::case::Case;
 use faults::CaseFault;
@@ -9,9 +9,10 @@ use std::alloc::Global;
 impl Case {
     // Reads a case: its system, or its first fault. What is accepted is what spells a system, and it is read as spelled.
     // The bytes are kept in memory of the case's own, which only bytes without a fault are given.
+    #[tactic(auto, using(crate::proofs::Promises::kept))]
     pub fn read(heap: Global, bytes: &[u8]) -> Result<Case, CaseFault>
-        ensures value { Read bytes.now (meant result) }
-        ensures law { ReadAsSpelled bytes.now (meant result) }
+        ensures value { Read bytes.now result }
+        ensures law { ReadAsSpelled bytes.now result }
     {
         check_case(bytes)?;
         let kept = Vec::from_slice(heap, bytes)?;

@@ -1,5 +1,5 @@
 -- The bytes without a fault are those that spell a list of candidates. Assumes nothing.
-use Rattle.std.proofs.Common.{◌≡◌, ℕ, zero, suc, ◌≤◌, leb, List, [], ◌∷◌, ◌++◌, length, drop, None, Ok, Result, sym, refl, ap, ◌∙◌, subst, ap₂, arith, length-drop}
+use Rattle.std.proofs.Common.{◌≡◌, ◌↔◌, ℕ, zero, suc, ◌≤◌, leb, List, [], ◌∷◌, ◌++◌, length, drop, None, Ok, Result, sym, refl, ap, ◌∙◌, subst, ap₂, arith, length-drop}
 use Rattle.std.proofs.lemmas.List.{append-nil, drop_at}
 use Rattle.std.proofs.lemmas.Bool.{le-leb, leb-true}
 use Rattle.faults.specs.Firsts.{or_else, inside, unless}
@@ -8,18 +8,17 @@ use Rattle.faults.specs.declared.work.WorkFault.TheVariants.{InCandidates}
 use Rattle.faults.proofs.Firsts.{or_none, inside_none, unmet_none, none_unmet, unless_value}
 use Rattle.lists.specs.Spelling.{after_clauses, clauses_in, spell_clauses}
 use Rattle.clauses.specs.Reading.{clauses_fault}
-use Rattle.clauses.specs.Candidates.{count_within, count_in, too_many, candidates_fault, read_candidates, gathered, CandidateList, ReadAsSpelled}
-use Rattle.lists.specs.declared.list.ClauseList.{ClauseList}
+use Rattle.clauses.specs.Candidates.{count_within, count_in, too_many, candidates_fault, read_candidates, CandidateList}
 use Rattle.clauses.specs.declared.scope.Scope.TheVariants.{Before}
 use Rattle.lists.proofs.Spelled.{clauses_length, clauses_spelled}
 use Rattle.clauses.proofs.Wellformed.{clauses_formed, formed_clauses, before_all, all_before}
-use Rattle.clauses.proofs.Gathered.{count_some}
+use Rattle.clauses.proofs.Gathered.{count_some, gathering_fault, gathering_many, gathering_all}
 
 -- nothing follows the clauses that begin before the end
 after_within : (turns : ℕ) (bs : List ℕ) → length bs ≤ turns → after_clauses (count_within turns bs) bs ≡ []
 unfolding count_within after_clauses
 after_within zero [] h = refl
-after_within zero (x ∷ xs) h = absurd (let z : ⊥ = omega arith in z)
+after_within zero (x ∷ xs) h = absurd (omega arith)
 after_within (suc turns) [] h = refl
 after_within (suc turns) (x ∷ xs) h = let e = length-drop x xs in after_within turns (drop x xs) (omega arith)
 
@@ -55,7 +54,7 @@ module _ (n : ℕ) where
       let none : candidates_fault n bs ≡ None = ap₂ (λ o p. or_else (inside InCandidates o) p) whole few in
       ap (λ o. unless o (clauses_in (count_in bs) bs)) none ∙ ap Ok (ap₂ (λ j xs. clauses_in j xs) k (sym a) ∙ clauses_spelled cs [])
 
-  pub candidates_as_spelled : (bs : List ℕ) (r : Result ClauseList WorkFault) → gathered r ≡ read_candidates n bs → ReadAsSpelled n bs r
+  pub candidates_as_spelled : (bs : List ℕ) (r : Result (List (List ℕ)) WorkFault) → r ≡ read_candidates n bs → (cs : List (List ℕ)) → (r ≡ Ok cs) ↔ (CandidateList n cs × (bs ≡ spell_clauses cs))
   candidates_as_spelled bs r e cs = (
     λ p.
         let q = unless_value (candidates_fault n bs) (clauses_in (count_in bs) bs) cs (sym e ∙ p) in
@@ -63,3 +62,6 @@ module _ (n : ℕ) where
         (subst (CandidateList n) q.1 l.0, subst (λ ds. bs ≡ spell_clauses ds) q.1 l.1),
     λ h. e ∙ ap (read_candidates n) h.1 ∙ list_read cs h.0,
   )
+
+-- what the returns of the reader need
+pub ruleset gathering = (gathering_fault, gathering_many, gathering_all, candidates_as_spelled)

@@ -3,13 +3,14 @@ use Rattle.std.proofs.Common.{◌≡◌, ℕ, zero, suc, ◌+◌, ◌/◌, ◌<�
 use Rattle.std.specs.List.{AllByRecursion}
 use Rattle.std.proofs.lemmas.Bool.{lt-ltb, le-leb, leb-true, ltb-true}
 use Rattle.std.proofs.ByRecursion.{All-weaker}
-use Rattle.std.proofs.lemmas.List.{take-append-drop, append_assoc, take_at, drop_at, length-append}
+use Rattle.std.proofs.lemmas.List.{length-take-le, take-append-drop, append_assoc, take_at, drop_at, length-append}
 use Rattle.system.specs.Literals.{variable_of}
 use Rattle.system.specs.Systems.{OverRelays, OverVariables, Rising}
 use Rattle.system.proofs.Truth.{T_of, T_true}
 use Rattle.lists.specs.Spelling.{clauses_in, after_clauses, spell_clauses}
 use Rattle.faults.specs.Firsts.{unmet, or_else}
-use Rattle.faults.proofs.Firsts.{some_clash, or_none, unmet_none, none_unmet}
+use Rattle.std.proofs.lemmas.Option.{none-some}
+use Rattle.faults.proofs.Firsts.{or_none, unmet_none, none_unmet}
 use Rattle.clauses.specs.Reading.{in_scope, literal_fault, literals_fault, clause_fault, clauses_fault}
 use Rattle.faults.specs.declared.clause.ClauseFault.TheVariants.{PastEnd, Variable, Order}
 use Rattle.clauses.specs.declared.scope.Scope.{Scope}
@@ -50,7 +51,7 @@ module _ (scope : Scope) where
   pub clauses_formed : (k at : ℕ) (bs : List ℕ) → clauses_fault scope k at bs ≡ None → ClausesFormed k bs
   unfolding clauses_fault clauses_in after_clauses
   clauses_formed zero at bs e = record { formed = tt; whole = refl }
-  clauses_formed (suc k) at [] e = absurd (some_clash _ e)
+  clauses_formed (suc k) at [] e = absurd (none-some _ (sym e))
   clauses_formed (suc k) at (x ∷ xs) e =
       let p = or_none (clause_fault scope at (x ∷ xs)) _ e in
       let q = or_none (unmet (leb x (length xs)) (PastEnd at)) (literals_fault scope (at + 1) 0 (take x xs)) p.0 in
@@ -59,14 +60,9 @@ module _ (scope : Scope) where
       record {
         formed = (f.formed, r.formed);
         whole =
-            ap₂ (λ y ys. y ∷ ys) (let l = leb-true x (length xs) (unmet_none (leb x (length xs)) _ q.0) in let n = length_take_is x xs l in sym n)
+            ap₂ (λ y ys. y ∷ ys) (let l = leb-true x (length xs) (unmet_none (leb x (length xs)) _ q.0) in sym (length-take-le x xs l))
             (sym (take-append-drop x xs) ∙ ap (λ ys. take x xs ++ ys) r.whole ∙ sym (append_assoc (take x xs) (spell_clauses (clauses_in k (drop x xs))) (after_clauses k (drop x xs))));
       }
-    where
-      length_take_is : (n : ℕ) (ys : List ℕ) → n ≤ length ys → length (take n ys) ≡ n
-      length_take_is zero ys h = refl
-      length_take_is (suc n) [] h = absurd (let z : ⊥ = omega arith in z)
-      length_take_is (suc n) (y ∷ ys) h = ap suc (length_take_is n ys (omega arith))
 
   all_low : (ls : List ℕ) → AllByRecursion (λ l. 0 ≤ l / 2) ls
   all_low [] = tt

@@ -4,6 +4,7 @@
 mod candidates;
 mod reader;
 mod scope;
+mod section;
 
 pub use candidates::{MOST_CANDIDATES, read_candidates};
 pub use reader::read_clauses;

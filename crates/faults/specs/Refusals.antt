@@ -1,6 +1,7 @@
 -- The layer, number and place of every fault.
 -- A fault of a lower layer keeps its own inside one of an upper layer.
-use Rattle.std.specs.Prelude.{ℕ}
+use Rattle.std.specs.Prelude.{ℕ, List, ◌++◌, codes, decimal}
+use Rattle.faults.specs.declared.refusal.Refusal.{Refusal}
 use Rattle.faults.specs.declared.clause.ClauseFault.{ClauseFault}
 use Rattle.faults.specs.declared.clause.ClauseFault.TheVariants.{PastEnd, Variable, Order}
 use Rattle.faults.specs.declared.case.CaseFault.{CaseFault}
@@ -10,10 +11,9 @@ use Rattle.faults.specs.declared.case.ListName.TheVariants.{Start, Step, Safety}
 use Rattle.faults.specs.declared.work.WorkFault.{WorkFault}
 use Rattle.faults.specs.declared.work.WorkFault.TheVariants.{InCase, InCandidates, TooManyCandidates, NoSuchClause}
 
-pub record Refusal : Type 0 where
-  pub layer : ℕ
-  pub number : ℕ
-  pub place : ℕ
+-- layer, number and place as text, with a space between
+abbrev pub told : Refusal → List ℕ
+told r = decimal r.layer ++ (codes " " ++ (decimal r.number ++ (codes " " ++ decimal r.place)))
 
 abbrev pub clause_refusal : ClauseFault → Refusal
 clause_refusal (PastEnd at) = record { layer = 1; number = 17; place = at }

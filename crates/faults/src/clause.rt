@@ -1,43 +1,26 @@
 // Faults of one clause in bytes.
-ghost use Rattle.std.specs.Prelude.{◌≡◌};
-ghost use Rattle.faults.specs.Refusals.{clause_refusal};
+use crate::fault::Fault;
+use crate::refusal::Refusal;
 
 // The clause passes the end of the bytes (with the index of its length byte), a literal is not about a variable of its
 // list, or its variable is not above that of the literal before it (with the index of the literal).
-#[derive(Clone, Copy)]
+#[derive(Clone, Copy, PartialEq, Eq, Debug)]
 pub enum ClauseFault {
     PastEnd(usize),
     Variable(usize),
     Order(usize),
 }
 
-impl ClauseFault {
-    // The layer that refuses.
-    pub fn layer(&self) -> u32
-        ensures { result ≡ (clause_refusal self.now).layer }
-    {
-        1
-    }
+impl Fault for ClauseFault {
+    ghost use Rattle.faults.specs.Refusals.{clause_refusal};
 
-    // The number of the refusal.
-    pub fn number(&self) -> u32
-        ensures { result ≡ (clause_refusal self.now).number }
-    {
-        match self {
-            ClauseFault::PastEnd(_) => 17,
-            ClauseFault::Variable(_) => 18,
-            ClauseFault::Order(_) => 19,
-        }
-    }
+    ghost refusal = { clause_refusal };
 
-    // The byte index that the refusal points at.
-    pub fn place(&self) -> usize
-        ensures { result ≡ (clause_refusal self.now).place }
-    {
+    fn refusal(&self) -> Refusal {
         match self {
-            ClauseFault::PastEnd(at) => *at,
-            ClauseFault::Variable(at) => *at,
-            ClauseFault::Order(at) => *at,
+            ClauseFault::PastEnd(at) => Refusal::new(1, 17, *at),
+            ClauseFault::Variable(at) => Refusal::new(1, 18, *at),
+            ClauseFault::Order(at) => Refusal::new(1, 19, *at),
         }
     }
 }

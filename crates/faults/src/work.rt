@@ -1,14 +1,15 @@
 // Faults of the work over a case and its candidates.
 ghost use Rattle.std.specs.Prelude.{◌≡◌};
-ghost use Rattle.faults.specs.Refusals.{work_refusal};
 ghost use Rattle.faults.specs.declared.work.WorkFault.TheVariants.{InCase, InCandidates};
 
 use crate::case::CaseFault;
 use crate::clause::ClauseFault;
+use crate::fault::Fault;
+use crate::refusal::Refusal;
 
 // A fault of the case, a fault inside a candidate clause, one candidate too many (with the index of its length byte),
 // or no clause of the number that was given.
-#[derive(Clone, Copy)]
+#[derive(Clone, Copy, PartialEq, Eq, Debug)]
 pub enum WorkFault {
     InCase(CaseFault),
     InCandidates(ClauseFault),
@@ -32,39 +33,17 @@ impl From<ClauseFault> for WorkFault {
     }
 }
 
-impl WorkFault {
-    // The layer that refuses: that of the case or of the clause where the fault lies inside one.
-    pub fn layer(&self) -> u32
-        ensures { result ≡ (work_refusal self.now).layer }
-    {
-        match self {
-            WorkFault::InCase(fault) => fault.layer(),
-            WorkFault::InCandidates(fault) => fault.layer(),
-            _ => 3,
-        }
-    }
+impl Fault for WorkFault {
+    ghost use Rattle.faults.specs.Refusals.{work_refusal};
 
-    // The number of the refusal.
-    pub fn number(&self) -> u32
-        ensures { result ≡ (work_refusal self.now).number }
-    {
-        match self {
-            WorkFault::InCase(fault) => fault.number(),
-            WorkFault::InCandidates(fault) => fault.number(),
-            WorkFault::TooManyCandidates(_) => 21,
-            WorkFault::NoSuchClause(_) => 31,
-        }
-    }
+    ghost refusal = { work_refusal };
 
-    // What the refusal points at: a byte index, but for NoSuchClause the number that was given.
-    pub fn place(&self) -> usize
-        ensures { result ≡ (work_refusal self.now).place }
-    {
+    fn refusal(&self) -> Refusal {
         match self {
-            WorkFault::InCase(fault) => fault.place(),
-            WorkFault::InCandidates(fault) => fault.place(),
-            WorkFault::TooManyCandidates(at) => *at,
-            WorkFault::NoSuchClause(number) => *number,
+            WorkFault::InCase(fault) => fault.refusal(),
+            WorkFault::InCandidates(fault) => fault.refusal(),
+            WorkFault::TooManyCandidates(at) => Refusal::new(3, 21, *at),
+            WorkFault::NoSuchClause(given) => Refusal::new(3, 31, *given),
         }
     }
 }

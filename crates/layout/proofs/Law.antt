@@ -1,5 +1,5 @@
 -- The bytes without a fault are those that spell an admitted system. Assumes nothing.
-use Rattle.std.proofs.Common.{◌≡◌, ℕ, ◌+◌, ◌-◌, ◌*◌, ◌/◌, ◌%◌, ◌<◌, ◌≤◌, true, cond, not, ◌↔◌, List, [], ◌∷◌, ◌++◌, length, get_or, drop, is_some, Some, None, Ok, Err, Option, Result, sym, refl, ap, ◌∙◌, subst, ap₂, arith, length-drop}
+use Rattle.std.proofs.Common.{◌≡◌, ℕ, ◌+◌, ◌-◌, ◌*◌, ◌/◌, ◌%◌, ◌≤◌, true, not, ◌↔◌, List, [], ◌∷◌, ◌++◌, length, get_or, drop, is_some, Some, None, Ok, Err, Result, sym, refl, ap, ◌∙◌, subst, ap₂, arith, length-drop, w8, Fits}
 use Rattle.faults.proofs.Firsts.{unless_value}
 use Rattle.std.proofs.lemmas.List.{drop_more, append-nil, length-append, drop_all}
 use Rattle.system.specs.Systems.{System}
@@ -28,11 +28,11 @@ spelled_length c =
 headed : ℕ → ℕ → ℕ → ℕ → ℕ → ℕ → ℕ → ℕ → ℕ → List ℕ → List ℕ
 headed a b c d e f g h i rest = word a ++ (word b ++ (word c ++ (word d ++ (word e ++ (word f ++ (word g ++ (word h ++ (word i ++ rest))))))))
 
-module _ (bs : List ℕ) (small : (i : ℕ) → get_or bs i 0 < 256) where
-  low_byte : (lo hi : ℕ) → lo < 256 → lo ≡ (lo + 256 * hi) % 256
+module _ (bs : List ℕ) (small : (i : ℕ) → Fits w8 (get_or bs i 0)) where
+  low_byte : (lo hi : ℕ) → Fits w8 lo → lo ≡ (lo + 256 * hi) % 256
   low_byte lo hi h = omega arith
 
-  high_byte : (lo hi : ℕ) → lo < 256 → hi ≡ (lo + 256 * hi) / 256
+  high_byte : (lo hi : ℕ) → Fits w8 lo → hi ≡ (lo + 256 * hi) / 256
   high_byte lo hi h = omega arith
 
   word_at : (i : ℕ) → i + 2 ≤ length bs → drop i bs ≡ word (field bs i) ++ drop (i + 2) bs
@@ -123,7 +123,7 @@ module _ (bs : List ℕ) (s : Sound bs) where
         safety_clauses = before_all (field bs 0) c.safety safeties.formed;
       }
 
-pub sound_spelled : (bs : List ℕ) → ((i : ℕ) → get_or bs i 0 < 256) → Sound bs → bs ≡ spell (system_in bs)
+pub sound_spelled : (bs : List ℕ) → ((i : ℕ) → Fits w8 (get_or bs i 0)) → Sound bs → bs ≡ spell (system_in bs)
 unfolding headed spell
 sound_spelled bs small s =
     let l = lengths bs s in
@@ -139,97 +139,91 @@ sound_spelled bs small s =
     header_bytes bs small s.long ∙ (λ i. headed (field bs 0) (field bs 2) (p4 i) (p6 i) (p8 i) (p10 i) (p12 i) (p14 i) (p16 i) (q i))
 
 -- and the other way round
-module _ (c : System) (admitted : Admitted c) where
+module _ (c : System) where
   again : (x : ℕ) → x % 256 + 256 * (x / 256) ≡ x
   again x = omega arith
 
-  bytes : List ℕ
-  bytes = spell c
-
-  field_start : field bytes 4 ≡ length c.start
-  unfolding bytes spell
+  pub field_start : field (spell c) 4 ≡ length c.start
+  unfolding spell
   field_start = again (length c.start)
 
-  field_step : field bytes 6 ≡ length c.step
-  unfolding bytes spell
+  pub field_step : field (spell c) 6 ≡ length c.step
+  unfolding spell
   field_step = again (length c.step)
 
-  field_safety : field bytes 8 ≡ length c.safety
-  unfolding bytes spell
+  pub field_safety : field (spell c) 8 ≡ length c.safety
+  unfolding spell
   field_safety = again (length c.safety)
 
-  field_relays : field bytes 0 ≡ c.n
-  unfolding bytes spell
+  pub field_relays : field (spell c) 0 ≡ c.n
+  unfolding spell
   field_relays = again c.n
 
-  field_inputs : field bytes 2 ≡ c.m
-  unfolding bytes spell
+  pub field_inputs : field (spell c) 2 ≡ c.m
+  unfolding spell
   field_inputs = again c.m
 
-  start_section : start_bytes bytes ≡ spell_clauses c.start ++ (spell_clauses c.step ++ spell_clauses c.safety)
-  unfolding bytes spell
+  start_section : start_bytes (spell c) ≡ spell_clauses c.start ++ (spell_clauses c.step ++ spell_clauses c.safety)
+  unfolding spell
   start_section = refl
 
-  step_section : step_bytes bytes ≡ spell_clauses c.step ++ spell_clauses c.safety
-  step_section = after_section (field bytes 4) 18 bytes ∙ ap₂ (λ k xs. after_clauses k xs) field_start start_section ∙ after_spelled c.start (spell_clauses c.step ++ spell_clauses c.safety)
+  step_section : step_bytes (spell c) ≡ spell_clauses c.step ++ spell_clauses c.safety
+  step_section = after_section (field (spell c) 4) 18 (spell c) ∙ ap₂ (λ k xs. after_clauses k xs) field_start start_section ∙ after_spelled c.start (spell_clauses c.step ++ spell_clauses c.safety)
 
-  safety_section : safety_bytes bytes ≡ spell_clauses c.safety
-  safety_section = after_section (field bytes 6) (step_place bytes) bytes ∙ ap₂ (λ k xs. after_clauses k xs) field_step step_section ∙ after_spelled c.step (spell_clauses c.safety)
+  safety_section : safety_bytes (spell c) ≡ spell_clauses c.safety
+  safety_section = after_section (field (spell c) 6) (step_place (spell c)) (spell c) ∙ ap₂ (λ k xs. after_clauses k xs) field_step step_section ∙ after_spelled c.step (spell_clauses c.safety)
 
-  left_section : left_bytes bytes ≡ []
+  left_section : left_bytes (spell c) ≡ []
   left_section =
-      after_section (field bytes 8) (safety_place bytes) bytes
+      after_section (field (spell c) 8) (safety_place (spell c)) (spell c)
       ∙ ap₂ (λ k xs. after_clauses k xs) field_safety (safety_section ∙ sym (append-nil (spell_clauses c.safety))) ∙ after_spelled c.safety []
 
   pub spelled_system : system_in (spell c) ≡ c
-  unfolding bytes
   spelled_system =
       let start = ap₂ (λ k xs. clauses_in k xs) field_start start_section ∙ clauses_spelled c.start (spell_clauses c.step ++ spell_clauses c.safety) in
       let step = ap₂ (λ k xs. clauses_in k xs) field_step step_section ∙ clauses_spelled c.step (spell_clauses c.safety) in
       let safety = ap₂ (λ k xs. clauses_in k xs) field_safety (safety_section ∙ sym (append-nil (spell_clauses c.safety))) ∙ clauses_spelled c.safety [] in
       λ i. record { n = field_relays i; m = field_inputs i; start = start i; step = step i; safety = safety i }
 
-  all_length : length bytes ≡ 18 + (length (spell_clauses c.start) + (length (spell_clauses c.step) + length (spell_clauses c.safety)))
-  unfolding bytes
+  all_length : length (spell c) ≡ 18 + (length (spell_clauses c.start) + (length (spell_clauses c.step) + length (spell_clauses c.safety)))
   all_length = spelled_length c
 
-  step_length : length (step_bytes bytes) ≡ length (spell_clauses c.step) + length (spell_clauses c.safety)
+  step_length : length (step_bytes (spell c)) ≡ length (spell_clauses c.step) + length (spell_clauses c.safety)
   step_length = ap length step_section ∙ length-append (spell_clauses c.step) (spell_clauses c.safety)
 
-  safety_length : length (safety_bytes bytes) ≡ length (spell_clauses c.safety)
+  safety_length : length (safety_bytes (spell c)) ≡ length (spell_clauses c.safety)
   safety_length = ap length safety_section
 
-  ten : field bytes 10 ≡ 18
-  unfolding bytes spell
-  ten = refl
+  pub start_begins : field (spell c) 10 ≡ 18
+  unfolding spell
+  start_begins = refl
 
-  twelve : field bytes 12 ≡ step_at c
-  unfolding bytes spell
-  twelve = again (step_at c)
+  pub step_begins : field (spell c) 12 ≡ step_at c
+  unfolding spell
+  step_begins = again (step_at c)
 
-  step_offset : field bytes 12 ≡ step_place bytes
-  step_offset = twelve ∙ omega (arith, all_length, step_length, end_length (field bytes 4) 18 bytes)
+  step_offset : field (spell c) 12 ≡ step_place (spell c)
+  step_offset = step_begins ∙ omega (arith, all_length, step_length, end_length (field (spell c) 4) 18 (spell c))
 
-  fourteen : field bytes 14 ≡ safety_at c
-  unfolding bytes spell
-  fourteen = again (safety_at c)
+  pub safety_begins : field (spell c) 14 ≡ safety_at c
+  unfolding spell
+  safety_begins = again (safety_at c)
 
-  safety_offset : field bytes 14 ≡ safety_place bytes
-  safety_offset = fourteen ∙ omega (arith, all_length, safety_length, end_length (field bytes 6) (step_place bytes) bytes)
+  safety_offset : field (spell c) 14 ≡ safety_place (spell c)
+  safety_offset = safety_begins ∙ omega (arith, all_length, safety_length, end_length (field (spell c) 6) (step_place (spell c)) (spell c))
 
-  sixteen : field bytes 16 ≡ safety_at c + length (spell_clauses c.safety)
-  unfolding bytes spell
+  sixteen : field (spell c) 16 ≡ safety_at c + length (spell_clauses c.safety)
+  unfolding spell
   sixteen = again (safety_at c + length (spell_clauses c.safety))
 
-  total_field : field bytes 16 ≡ length bytes
+  total_field : field (spell c) 16 ≡ length (spell c)
   total_field = sixteen ∙ omega (arith, all_length)
 
-  short_total : field bytes 16 ≤ 32768
-  unfolding bytes
-  short_total = let h = admitted.short in omega (arith, total_field)
+  short_total : Admitted c → field (spell c) 16 ≤ 32768
+  short_total admitted = let h = admitted.short in omega (arith, total_field)
 
-  spelled_sound : Sound bytes
-  spelled_sound =
+  spelled_sound : Admitted c → Sound (spell c)
+  spelled_sound admitted =
       record {
         long = omega (arith, all_length);
         relays = let h = admitted.relays in (omega (arith, field_relays), omega (arith, field_relays));
@@ -237,14 +231,14 @@ module _ (c : System) (admitted : Admitted c) where
         starts = let h = admitted.few in omega (arith, field_start);
         steps = let h = admitted.few in omega (arith, field_step);
         safeties = let h = admitted.few in omega (arith, field_safety);
-        short = short_total;
+        short = short_total admitted;
         total = total_field;
         start =
             record {
-              offset = ten;
+              offset = start_begins;
               clauses =
                   let at : ℕ = 18 in
-                  ap₂ (λ k xs. clauses_fault (Before (field bytes 0)) k at xs) field_start start_section
+                  ap₂ (λ k xs. clauses_fault (Before (field (spell c) 0)) k at xs) field_start start_section
                   ∙ ap (λ n. clauses_fault (Before n) (length c.start) at (spell_clauses c.start ++ (spell_clauses c.step ++ spell_clauses c.safety))) field_relays
                   ∙ formed_clauses (Before c.n) c.start at _ (all_before c.n c.start admitted.start_clauses);
             };
@@ -252,8 +246,8 @@ module _ (c : System) (admitted : Admitted c) where
             record {
               offset = step_offset;
               clauses =
-                  let at = step_place bytes in
-                  ap₂ (λ k xs. clauses_fault (Across (field bytes 0) (field bytes 2)) k at xs) field_step step_section
+                  let at = step_place (spell c) in
+                  ap₂ (λ k xs. clauses_fault (Across (field (spell c) 0) (field (spell c) 2)) k at xs) field_step step_section
                   ∙ ap₂ (λ n m. clauses_fault (Across n m) (length c.step) at (spell_clauses c.step ++ spell_clauses c.safety)) field_relays field_inputs
                   ∙ formed_clauses (Across c.n c.m) c.step at _ (all_across c.n c.m c.step admitted.step_clauses);
             };
@@ -261,23 +255,22 @@ module _ (c : System) (admitted : Admitted c) where
             record {
               offset = safety_offset;
               clauses =
-                  let at = safety_place bytes in
-                  ap₂ (λ k xs. clauses_fault (Before (field bytes 0)) k at xs) field_safety (safety_section ∙ sym (append-nil (spell_clauses c.safety)))
+                  let at = safety_place (spell c) in
+                  ap₂ (λ k xs. clauses_fault (Before (field (spell c) 0)) k at xs) field_safety (safety_section ∙ sym (append-nil (spell_clauses c.safety)))
                   ∙ ap (λ n. clauses_fault (Before n) (length c.safety) at (spell_clauses c.safety ++ [])) field_relays
                   ∙ formed_clauses (Before c.n) c.safety at [] (all_before c.n c.safety admitted.safety_clauses);
             };
-        nothing_left = let e = ap length left_section in omega (arith, end_length (field bytes 8) (safety_place bytes) bytes);
+        nothing_left = let e = ap length left_section in omega (arith, end_length (field (spell c) 8) (safety_place (spell c)) (spell c));
       }
 
-  pub spelled_none : case_fault (spell c) ≡ None
-  unfolding bytes
-  spelled_none = parts_sound (spell c) spelled_sound
+  pub spelled_none : Admitted c → case_fault (spell c) ≡ None
+  spelled_none admitted = parts_sound (spell c) (spelled_sound admitted)
 
-  pub spelled_read : read_case (spell c) ≡ Ok c
+  pub spelled_read : Admitted c → read_case (spell c) ≡ Ok c
   unfolding read_case
-  spelled_read = ap (λ o. unless o (system_in (spell c))) spelled_none ∙ ap Ok spelled_system
+  spelled_read admitted = ap (λ o. unless o (system_in (spell c))) (spelled_none admitted) ∙ ap Ok spelled_system
 
-module _ (bs : List ℕ) (small : (i : ℕ) → get_or bs i 0 < 256) where
+module _ (bs : List ℕ) (small : (i : ℕ) → Fits w8 (get_or bs i 0)) where
   -- reading accepts exactly what spells an admitted system, and reads that system
   pub read_as_spelled : (c : System) → (read_case bs ≡ Ok c) ↔ (Admitted c × (bs ≡ spell c))
   unfolding read_case
@@ -301,15 +294,7 @@ module _ (bs : List ℕ) (small : (i : ℕ) → get_or bs i 0 < 256) where
 pub spelled_once : SpelledOnce
 spelled_once c d a b e = let p = sym (spelled_read c a) ∙ ap read_case e ∙ spelled_read d b in cc
 
--- what the accepted bytes are
-pub accepted_sound : (bs : List ℕ) → accepted bs ≡ true → Sound bs
-unfolding accepted
-accepted_sound bs e = sound_parts bs (go (case_fault bs) e)
-  where
-    go : (o : Option CaseFault) → not (is_some o) ≡ true → o ≡ None
-    go None h = refl
-    go (Some f) h = absurd (let z : ◌≡◌ {A = ℕ} 0 1 = ap (λ b. cond b 1 0) h in let w : ⊥ = omega arith in w)
-
+-- what reading gives, by the first fault
 pub none_accepted : (bs : List ℕ) → case_fault bs ≡ None → accepted bs ≡ true
 unfolding accepted
 none_accepted bs e = ap (λ o. not (is_some o)) e

@@ -2,6 +2,7 @@
 use Rattle.std.specs.Prelude.{ℕ, ◌+◌, ◌-◌, ◌*◌, Bool, not, ◌&&◌, List, [], ◌∷◌, length, drop, is_some, Option, Result, ◌==◌, nat_le, slice_index}
 use Rattle.system.specs.Systems.{System}
 use Rattle.faults.specs.Firsts.{unmet, first_of, inside, unless}
+use Rattle.faults.specs.Refusals.{count_place}
 use Rattle.faults.specs.declared.case.CaseFault.{CaseFault}
 use Rattle.faults.specs.declared.case.CaseFault.TheVariants.{Short, Relays, Inputs, Count, Total, Offset, InClause, LeftOver}
 use Rattle.faults.specs.declared.case.ListName.{ListName}
@@ -40,15 +41,25 @@ system_in bs =
       safety = clauses_in (field bs 8) (drop (safety_place bs) bs);
     }
 
+-- how many clauses a list has at most
+abbrev pub most_of : ListName → ℕ
+most_of Start = 256
+most_of Step = 1024
+most_of Safety = 256
+
+-- the test of how many clauses the header gives a list
+abbrev pub count_fault : ListName → List ℕ → Option CaseFault
+count_fault list bs = unmet (nat_le (field bs (count_place list)) (most_of list)) (Count list)
+
 -- the tests of a header, in order
 abbrev pub header_faults : List ℕ → List (Option CaseFault)
 header_faults bs =
     unmet (nat_le 18 (length bs)) (Short (length bs))
     ∷ unmet (nat_le 1 (field bs 0) && nat_le (field bs 0) 32) Relays
     ∷ unmet (nat_le (field bs 2) 64) Inputs
-    ∷ unmet (nat_le (field bs 4) 256) (Count Start)
-    ∷ unmet (nat_le (field bs 6) 1024) (Count Step)
-    ∷ unmet (nat_le (field bs 8) 256) (Count Safety)
+    ∷ count_fault Start bs
+    ∷ count_fault Step bs
+    ∷ count_fault Safety bs
     ∷ unmet (nat_le (field bs 16) 32768 && field bs 16 == length bs) Total
     ∷ []
 

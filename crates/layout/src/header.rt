@@ -1,8 +1,9 @@
 // The header of a case: nine 16-bit numbers, low byte first.
-ghost use Rattle.std.specs.Prelude.{◌≡◌, ◌<◌, Some, MatchResult, slice_index};
-ghost use Rattle.layout.specs.Reading.{header_fault, field};
-ghost use Rattle.layout.specs.Headers.{HeaderRead};
+ghost use Rattle.std.specs.Prelude.{◌≡◌, Some, MatchResult, slice_index};
+ghost use Rattle.layout.specs.Reading.{most_of, count_fault, header_fault, field};
+ghost use Rattle.layout.specs.Headers.{SectionRead, HeaderRead};
 
+use clauses::Scope;
 use faults::{CaseFault, ListName};
 
 // How many bytes a header has, and a case at most.
@@ -10,50 +11,73 @@ pub const HEADER: usize = 18;
 
 const MOST: usize = 32768;
 
-// What a header states of one list: how many clauses it has, and at which byte it begins.
-#[derive(Clone, Copy)]
-pub(crate) struct Stated {
+// A section as the header states it: its list, the variables that its clauses may be about, how many clauses it has, and
+// at which byte it begins.
+#[derive(Clone, Copy, PartialEq, Eq, Debug)]
+pub(crate) struct Section {
+    pub(crate) list: ListName,
+    pub(crate) scope: Scope,
     pub(crate) count: usize,
     pub(crate) at: usize,
 }
 
-// The numbers of a header within their bounds; where a list begins is looked at with its section.
-#[derive(Clone, Copy)]
+// The sections of a header whose numbers are within their bounds; where a section begins is looked at with its bytes.
+#[derive(Clone, Copy, PartialEq, Eq, Debug)]
 pub(crate) struct Header {
-    pub(crate) relays: u32,
-    pub(crate) inputs: u32,
-    pub(crate) start: Stated,
-    pub(crate) step: Stated,
-    pub(crate) safety: Stated,
+    pub(crate) start: Section,
+    pub(crate) step: Section,
+    pub(crate) safety: Section,
 }
 
 // The byte at an index, or 0 past the end.
-fn byte_at(bytes: &[u8], i: usize) -> u32
-    ensures value { result ≡ slice_index bytes.now i }
-    ensures bound { result < 256 }
+fn byte_at(bytes: &[u8], i: usize) -> u8
+    ensures { result ≡ slice_index bytes.now i }
 {
-    if i < bytes.len() { bytes[i] as u32 } else { 0 }
+    bytes.get(i).copied().unwrap_or(0)
 }
 
 // The 16-bit number at an index, low byte first; bytes past the end count as 0.
+fn word_at(bytes: &[u8], i: usize) -> u16
+    ensures { result ≡ field bytes.now i }
+{
+    let low = byte_at(bytes, i);
+    let high = byte_at(bytes, i.saturating_add(1));
+    u16::from_le_bytes([low, high])
+}
+
+// The same as a wider number.
 pub fn read_field(bytes: &[u8], i: usize) -> u32
     ensures { result ≡ field bytes.now i }
 {
-    if i < bytes.len() {
-        byte_at(bytes, i) + 256 * byte_at(bytes, i + 1)
-    } else {
-        0
+    u32::from(word_at(bytes, i))
+}
+
+// How many clauses a list has at most.
+fn most(list: ListName) -> usize
+    ensures { result ≡ most_of list }
+{
+    match list {
+        ListName::Start | ListName::Safety => 256,
+        ListName::Step => 1024,
     }
 }
 
-// So many clauses, from the byte on that the field at a place states.
-fn list_at(bytes: &[u8], count: usize, place: usize) -> Stated
-    ensures count { result.count ≡ count }
-    ensures at { result.at ≡ field bytes.now place }
-{
-    Stated {
-        count,
-        at: read_field(bytes, place) as usize,
+impl Section {
+    // What the header states of a list, or that it has too many clauses.
+    fn read(list: ListName, scope: Scope, bytes: &[u8]) -> Result<Section, CaseFault>
+        ensures { MatchResult result (λ s. SectionRead list scope bytes.now s) (λ f. count_fault list bytes.now ≡ Some f) }
+    {
+        let count = usize::from(word_at(bytes, list.count_place()));
+        if count > most(list) {
+            return Err(CaseFault::Count(list));
+        }
+        let at = usize::from(word_at(bytes, list.offset_place()));
+        Ok(Section {
+            list,
+            scope,
+            count,
+            at,
+        })
     }
 }
 
@@ -73,28 +97,17 @@ impl Header {
         if inputs > 64 {
             return Err(CaseFault::Inputs);
         }
-        let start_count = read_field(bytes, 4) as usize;
-        if start_count > 256 {
-            return Err(CaseFault::Count(ListName::Start));
-        }
-        let step_count = read_field(bytes, 6) as usize;
-        if step_count > 1024 {
-            return Err(CaseFault::Count(ListName::Step));
-        }
-        let safety_count = read_field(bytes, 8) as usize;
-        if safety_count > 256 {
-            return Err(CaseFault::Count(ListName::Safety));
-        }
-        let total = read_field(bytes, 16) as usize;
+        let start = Section::read(ListName::Start, Scope::Before(relays), bytes)?;
+        let step = Section::read(ListName::Step, Scope::Across(relays, inputs), bytes)?;
+        let safety = Section::read(ListName::Safety, Scope::Before(relays), bytes)?;
+        let total = usize::from(word_at(bytes, 16));
         if total > MOST || total != bytes.len() {
             return Err(CaseFault::Total);
         }
         Ok(Header {
-            relays,
-            inputs,
-            start: list_at(bytes, start_count, 10),
-            step: list_at(bytes, step_count, 12),
-            safety: list_at(bytes, safety_count, 14),
+            start,
+            step,
+            safety,
         })
     }
 }

@@ -5,25 +5,21 @@ ghost use Rattle.layout.specs.Reading.{section_fault, case_fault};
 ghost use Rattle.layout.specs.Sections.{SectionPassed};
 ghost use Rattle.layout.specs.Spelling.{AcceptedAsSpelled, SpelledOnce};
 
-use crate::header::{HEADER, Header, Stated};
-use clauses::{Scope, read_clauses};
-use faults::{CaseFault, ListName};
+use crate::header::{HEADER, Header, Section};
+use clauses::read_clauses;
+use faults::CaseFault;
 
-// Looks a section through that begins at byte at: the index of the first byte after it.
-fn check_section(
-    list: ListName,
-    scope: Scope,
-    stated: Stated,
-    bytes: &[u8],
-    at: usize,
-) -> Result<usize, CaseFault>
-    ensures { MatchResult result (λ next. SectionPassed list stated.at scope stated.count at bytes.now next) (λ f. section_fault list stated.at scope stated.count at bytes.now ≡ Some f) }
-{
-    if stated.at != at {
-        return Err(CaseFault::Offset(list));
+impl Section {
+    // Looks the section through, which is to begin at byte at: the index of the first byte after it.
+    fn check(self, bytes: &[u8], at: usize) -> Result<usize, CaseFault>
+        ensures { MatchResult result (λ next. SectionPassed self at bytes.now next) (λ f. section_fault self.list self.at self.scope self.count at bytes.now ≡ Some f) }
+    {
+        if self.at != at {
+            return Err(CaseFault::Offset(self.list));
+        }
+        let (_, after) = read_clauses(self.scope, self.count, bytes, at)?;
+        Ok(bytes.len() - after.len())
     }
-    let (_, after) = read_clauses(scope, stated.count, bytes, at)?;
-    Ok(bytes.len() - after.len())
 }
 
 // Looks for the first fault of a case. Bytes without one are exactly those that spell an admitted system, and no two
@@ -41,11 +37,9 @@ fn check_parts(bytes: &[u8]) -> Result<(), CaseFault>
     ensures { result ≡ unless (case_fault bytes.now) tt }
 {
     let header = Header::read(bytes)?;
-    let before = Scope::Before(header.relays);
-    let across = Scope::Across(header.relays, header.inputs);
-    let step_at = check_section(ListName::Start, before, header.start, bytes, HEADER)?;
-    let safety_at = check_section(ListName::Step, across, header.step, bytes, step_at)?;
-    let end = check_section(ListName::Safety, before, header.safety, bytes, safety_at)?;
+    let step_at = header.start.check(bytes, HEADER)?;
+    let safety_at = header.step.check(bytes, step_at)?;
+    let end = header.safety.check(bytes, safety_at)?;
     if end != bytes.len() {
         return Err(CaseFault::LeftOver(end));
     }

@@ -1,2 +1,1 @@
 pub mod Spelled
-pub mod Walks

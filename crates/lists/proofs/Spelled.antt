@@ -1,7 +1,8 @@
 -- Clauses in bytes: taking one off the front, and lists of them one after another. Assumes nothing.
-use Rattle.std.proofs.Common.{◌≡◌, ℕ, zero, suc, ◌+◌, ◌-◌, ◌<◌, ◌≤◌, min, List, [], ◌∷◌, ◌++◌, length, get_or, take, drop, sym, refl, ap, ◌∙◌, ap₂, inl, inr, arith, length-drop, length-take}
-use Rattle.std.proofs.lemmas.Bool.{cases_lt}
-use Rattle.std.proofs.lemmas.List.{take_rest, take_all, drop_all, append_assoc, take_at, drop_at, drop-drop}
+use Rattle.std.proofs.Common.{◌≡◌, ℕ, zero, suc, ◌+◌, ◌-◌, ◌<◌, ◌≤◌, List, [], ◌∷◌, ◌++◌, length, get_or, take, drop, sym, refl, ap, ◌∙◌, ap₂, arith, length-drop, length-take}
+use Rattle.std.proofs.lemmas.List.Recursion.{is_sum_by}
+use Rattle.std.specs.List.{sum_by}
+use Rattle.std.proofs.lemmas.List.{take_min, drop_min, take_rest, append_assoc, take_at, drop_at, drop-drop}
 use Rattle.system.specs.Literals.{size}
 use Rattle.lists.specs.Spelling.{clause_at, after_clause, clauses_in, after_clauses, spell_clauses}
 
@@ -11,47 +12,30 @@ clause_front [] h = refl
 clause_front (x ∷ xs) h = ap (take x) (take_rest (x ∷ xs) 1)
 
 pub clause_back : (bs : List ℕ) → 0 < length bs → drop (get_or bs 0 0) (take (length bs - 1) (drop 1 bs)) ≡ after_clause bs
-clause_back [] h = absurd (let z : ⊥ = omega arith in z)
+clause_back [] h = absurd (omega arith)
 clause_back (x ∷ xs) h = ap (drop x) (take_rest (x ∷ xs) 1)
 
-take_min : (n : ℕ) (xs : List ℕ) → take (min (length xs) n) xs ≡ take n xs
-take_min n xs =
-    elim (cases_lt n (length xs)) [
-      | inl h ↦ ap (λ k. take k xs) (let e : min (length xs) n ≡ n = omega arith in e)
-      | inr h ↦ ap (λ k. take k xs) (let e : min (length xs) n ≡ length xs = omega arith in e) ∙ take_all (length xs) xs (omega arith) ∙ sym (take_all n xs h)
-    ]
+pub nothing_at : (bs : List ℕ) → length bs ≡ 0 → bs ≡ clause_at bs
+nothing_at [] h = refl
+nothing_at (x ∷ xs) h = absurd (omega arith)
 
-pub drop_min : (n : ℕ) (xs : List ℕ) → drop (min (length xs) n) xs ≡ drop n xs
-drop_min n xs =
-    elim (cases_lt n (length xs)) [
-      | inl h ↦ ap (λ k. drop k xs) (let e : min (length xs) n ≡ n = omega arith in e)
-      | inr h ↦ ap (λ k. drop k xs) (let e : min (length xs) n ≡ length xs = omega arith in e) ∙ drop_all (length xs) xs (omega arith) ∙ sym (drop_all n xs h)
-    ]
+pub nothing_after : (bs : List ℕ) → length bs ≡ 0 → bs ≡ after_clause bs
+nothing_after [] h = refl
+nothing_after (x ∷ xs) h = absurd (omega arith)
 
-pub cut_front : (bs : List ℕ) (n : ℕ) → 0 < length bs → n ≡ min (length (take (length bs - 1) (drop 1 bs))) (get_or bs 0 0) → take n (take (length bs - 1) (drop 1 bs)) ≡ clause_at bs
-cut_front bs n h e = ap (λ k. take k (take (length bs - 1) (drop 1 bs))) e ∙ take_min (get_or bs 0 0) (take (length bs - 1) (drop 1 bs)) ∙ clause_front bs h
-
-pub cut_back : (bs : List ℕ) (n : ℕ) → 0 < length bs → n ≡ min (length (take (length bs - 1) (drop 1 bs))) (get_or bs 0 0) → drop n (take (length bs - 1) (drop 1 bs)) ≡ after_clause bs
-cut_back bs n h e = ap (λ k. drop k (take (length bs - 1) (drop 1 bs))) e ∙ drop_min (get_or bs 0 0) (take (length bs - 1) (drop 1 bs)) ∙ clause_back bs h
+-- what taking one off the front needs
+pub ruleset first_off = (nothing_at, nothing_after, clause_front, clause_back, take_min, drop_min)
 
 -- no clause, and one clause off the front
 pub clauses_none : (k : ℕ) (bs : List ℕ) → k ≡ 0 → clauses_in k bs ≡ []
 unfolding clauses_in
 clauses_none zero bs e = refl
-clauses_none (suc k) bs e = absurd (let z : ⊥ = omega arith in z)
+clauses_none (suc k) bs e = absurd (omega arith)
 
 pub clauses_first : (k : ℕ) (bs : List ℕ) → (k ≡ 0 → ⊥) → clauses_in k bs ≡ clause_at bs ∷ clauses_in (k - 1) (after_clause bs)
 unfolding clauses_in
-clauses_first zero bs e = absurd (let z : ⊥ = omega arith in z)
+clauses_first zero bs e = absurd (omega arith)
 clauses_first (suc k) bs e = ap (λ j. clause_at bs ∷ clauses_in j (after_clause bs)) (let p : k ≡ suc k - 1 = omega arith in p)
-
-pub nothing_at : (bs : List ℕ) → length bs ≡ 0 → bs ≡ clause_at bs
-nothing_at [] h = refl
-nothing_at (x ∷ xs) h = absurd (let z : ⊥ = omega arith in z)
-
-pub nothing_after : (bs : List ℕ) → length bs ≡ 0 → bs ≡ after_clause bs
-nothing_after [] h = refl
-nothing_after (x ∷ xs) h = absurd (let z : ⊥ = omega arith in z)
 
 -- how many they are, and how many literals they have at most
 pub clauses_length : (k : ℕ) (bs : List ℕ) → length (clauses_in k bs) ≡ k
@@ -64,6 +48,13 @@ unfolding clauses_in
 clauses_size zero bs = omega arith
 clauses_size (suc k) [] = let h = clauses_size k [] in omega arith
 clauses_size (suc k) (x ∷ xs) = let h = clauses_size k (drop x xs) in omega (arith, length-take x xs, length-drop x xs)
+
+-- what counting the clauses needs
+pub ruleset counted = (clauses_length, clauses_none, clauses_first)
+
+-- the literals of clauses are the sum of their lengths
+pub size_sum : (cs : List (List ℕ)) → size cs ≡ sum_by length cs
+size_sum cs = is_sum_by size length refl (λ _ _. refl) cs
 
 -- one more clause at the end
 pub after_more : (k : ℕ) (bs : List ℕ) → after_clauses (suc k) bs ≡ after_clause (after_clauses k bs)

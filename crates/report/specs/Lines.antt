@@ -1,7 +1,8 @@
 -- The lines that the program prints, as bytes.
 use Rattle.std.specs.Prelude.{ℕ, List, ◌++◌, length, Ok, Err, codes, decimal, Result}
 use Rattle.system.specs.Systems.{System}
-use Rattle.faults.specs.Refusals.{Refusal, case_refusal}
+use Rattle.faults.specs.declared.refusal.Refusal.{Refusal}
+use Rattle.faults.specs.Refusals.{told, case_refusal}
 use Rattle.faults.specs.declared.case.CaseFault.{CaseFault}
 
 -- a system that was opened: relays, inputs, and the counts of start, step and safety clauses
@@ -15,7 +16,7 @@ open_line c =
 
 -- a refusal: layer, number and place
 abbrev pub refusal_line : Refusal → List ℕ
-refusal_line f = codes "refused " ++ (decimal f.layer ++ (codes " " ++ (decimal f.number ++ (codes " " ++ decimal f.place))))
+refusal_line r = codes "refused " ++ told r
 
 -- what reading gave
 abbrev pub report_line : Result System CaseFault → List ℕ

@@ -4,16 +4,15 @@
 ghost use Rattle.std.specs.Prelude.{◌≡◌, IfOk, string_bytes};
 ghost use Rattle.faults.specs.Refusals.{work_refusal};
 ghost use Rattle.layout.specs.Reading.{read_case};
-ghost use Rattle.cases.specs.Meaning.{system_of};
 ghost use Rattle.report.specs.Lines.{open_line, refusal_line, report_line};
 
 use cases::Case;
-use faults::{CaseFault, ListName, WorkFault};
+use faults::{CaseFault, Fault, ListName, WorkFault};
 use std::alloc::{AllocError, Global};
 
 // `open`, relays, inputs, and the counts of start, step and safety clauses.
 pub fn open_line(heap: Global, case: &Case) -> Result<String, AllocError>
-    ensures { IfOk result (λ t. string_bytes t ≡ open_line (system_of case.now)) }
+    ensures { IfOk result (λ t. string_bytes t ≡ open_line case.now) }
 {
     let relays = case.relays();
     let inputs = case.inputs();
@@ -27,10 +26,8 @@ pub fn open_line(heap: Global, case: &Case) -> Result<String, AllocError>
 pub fn refusal_line(heap: Global, fault: &WorkFault) -> Result<String, AllocError>
     ensures { IfOk result (λ t. string_bytes t ≡ refusal_line (work_refusal fault.now)) }
 {
-    let layer = fault.layer();
-    let number = fault.number();
-    let place = fault.place();
-    format!(in heap; "refused {layer} {number} {place}")
+    let refusal = fault.refusal();
+    format!(in heap; "refused {refusal}")
 }
 
 // What the bytes are as a case: what was opened, or the refusal. Only want of memory leaves it unsaid.
@@ -39,9 +36,7 @@ pub fn report(heap: Global, bytes: &[u8]) -> Result<String, AllocError>
 {
     match Case::read(heap, bytes) {
         Ok(case) => open_line(heap, &case),
-        Err(fault) => match fault {
-            CaseFault::NoMemory => Err(AllocError),
-            _ => refusal_line(heap, &WorkFault::from(fault)),
-        },
+        Err(CaseFault::NoMemory) => Err(AllocError),
+        Err(fault) => refusal_line(heap, &WorkFault::from(fault)),
     }
 }

@@ -1,71 +1,61 @@
 // Lists of candidates over two relays.
+use crate::samples::{Refused, put, refused};
 use clauses::read_candidates;
+use std::alloc::{AllocError, Global};
 
-// The bytes, how many of them are read, and layer, number and place of the refusal; or two zeros and how many candidates
-// there are.
-const SMALL_ROWS: [([u8; 7], usize, [usize; 3]); 9] = [
-    ([0, 0, 0, 0, 0, 0, 0], 0, [0, 0, 0]),
-    ([0, 0, 0, 0, 0, 0, 0], 1, [0, 0, 1]),
-    ([1, 1, 1, 3, 2, 0, 2], 7, [0, 0, 3]),
-    ([1, 1, 1, 4, 0, 0, 0], 7, [1, 18, 3]),
-    ([1, 1, 1, 0x40, 0, 0, 0], 7, [1, 18, 3]),
-    ([2, 2, 0, 0, 0, 0, 0], 7, [1, 19, 2]),
-    ([2, 2, 3, 0, 0, 0, 0], 7, [1, 19, 2]),
-    ([0, 3, 0, 2, 0, 0, 0], 4, [1, 17, 1]),
-    ([1, 1, 1, 3, 2, 0, 2], 6, [1, 17, 4]),
+// How many candidates there are.
+type Listed = Result<usize, Refused>;
+
+// The bytes, and what is said of them.
+const SMALL_ROWS: [(&[u8], Listed); 9] = [
+    (&[], Ok(0)),
+    (&[0], Ok(1)),
+    (&[1, 1, 1, 3, 2, 0, 2], Ok(3)),
+    (&[1, 1, 1, 4, 0, 0, 0], Err((1, 18, 3))),
+    (&[1, 1, 1, 0x40, 0, 0, 0], Err((1, 18, 3))),
+    (&[2, 2, 0, 0, 0, 0, 0], Err((1, 19, 2))),
+    (&[2, 2, 3, 0, 0, 0, 0], Err((1, 19, 2))),
+    (&[0, 3, 0, 2], Err((1, 17, 1))),
+    (&[1, 1, 1, 3, 2, 0], Err((1, 17, 4))),
 ];
 
 // How many bytes, all 0 and so each an empty clause but for two of them: where these stand and what they are. 512
 // candidates are taken and a 513th is not, and a fault inside any clause comes first.
-const LONG_ROWS: [(usize, usize, [u8; 2], [usize; 3]); 6] = [
-    (512, 0, [0, 0], [0, 0, 512]),
-    (513, 511, [1, 2], [0, 0, 512]),
-    (513, 0, [0, 0], [3, 21, 512]),
-    (602, 600, [0, 0], [3, 21, 512]),
-    (602, 600, [1, 4], [1, 18, 601]),
-    (514, 513, [1, 0], [1, 17, 513]),
+const LONG_ROWS: [(usize, usize, [u8; 2], Listed); 6] = [
+    (512, 0, [0, 0], Ok(512)),
+    (513, 511, [1, 2], Ok(512)),
+    (513, 0, [0, 0], Err((3, 21, 512))),
+    (602, 600, [0, 0], Err((3, 21, 512))),
+    (602, 600, [1, 4], Err((1, 18, 601))),
+    (514, 513, [1, 0], Err((1, 17, 513))),
 ];
 
-fn says(bytes: &[u8], expected: [usize; 3]) -> bool {
-    let [l, n, p] = expected;
+fn listed(bytes: &[u8]) -> Listed {
     match read_candidates(2, bytes) {
-        Ok(list) => l == 0 && n == 0 && p == list.len(),
-        Err(fault) => l == fault.layer() as usize
-            && n == fault.number() as usize
-            && p == fault.place(),
+        Ok(list) => Ok(list.len()),
+        Err(fault) => Err(refused(&fault)),
     }
 }
 
-fn first_wrong_small() -> usize {
-    for (row, (bytes, len, expected)) in SMALL_ROWS.iter().enumerate() {
-        if *len > 7 || !says(&bytes[0..*len], *expected) {
-            return row;
-        }
-    }
-    SMALL_ROWS.len()
-}
-
-fn first_wrong_long() -> usize {
-    for (row, (len, at, values, expected)) in LONG_ROWS.iter().enumerate() {
-        let mut bytes = [0; 602];
-        let [first, second] = *values;
-        if *at < 601 {
-            bytes[*at] = first;
-            bytes[*at + 1] = second;
-        }
-        if *len > 602 || !says(&bytes[0..*len], *expected) {
-            return row;
-        }
-    }
-    LONG_ROWS.len()
+fn long_list(heap: Global, len: usize, at: usize, values: &[u8]) -> Result<Vec<u8>, AllocError> {
+    let mut bytes = vec![in heap; 0; len]?;
+    put(bytes.as_mut_slice(), at, values);
+    Ok(bytes)
 }
 
 #[test]
 fn small_lists(rt: HostRuntime) {
-    assert_eq!(rt; first_wrong_small(), SMALL_ROWS.len());
+    let wrong = SMALL_ROWS
+        .iter()
+        .position(|(bytes, expected)| listed(bytes) != *expected);
+    assert_eq!(rt; wrong, None);
 }
 
 #[test]
 fn long_lists(rt: HostRuntime) {
-    assert_eq!(rt; first_wrong_long(), LONG_ROWS.len());
+    let heap = rt.alloc();
+    let wrong = LONG_ROWS.iter().position(|(len, at, values, expected)| {
+        !long_list(heap, *len, *at, values).is_ok_and(|bytes| listed(bytes.as_slice()) == *expected)
+    });
+    assert_eq!(rt; wrong, None);
 }

@@ -1,11 +1,15 @@
 // The two cases that the tables change, and what reading says of bytes.
 use cases::Case;
+use faults::Fault;
 use std::alloc::Global;
 
-// Layer, number and place of a refusal; three zeros where the bytes are accepted.
-pub type Said = [usize; 3];
+// Layer, number and place of a refusal.
+pub type Refused = (u32, u32, usize);
 
-pub const ACCEPTED: Said = [0, 0, 0];
+// Nothing where the bytes are accepted.
+pub type Said = Result<(), Refused>;
+
+pub const ACCEPTED: Said = Ok(());
 
 // Two relays and no input. Start clauses at 18 and 20, step clauses at 22, 25, 28 and 31, the safety clause at 34.
 pub const TWO: [u8; 36] = [
@@ -24,20 +28,22 @@ pub const THREE: [u8; 32] = [
     3, 1, 3, 4,
 ];
 
-// Whether reading says of the bytes what is expected.
-pub fn says(heap: Global, bytes: &[u8], expected: Said) -> bool {
-    let [layer, number, place] = said(heap, bytes);
-    let [l, n, p] = expected;
-    layer == l && number == n && place == p
+// Writes the values over the bytes from the index on.
+pub fn put(bytes: &mut [u8], at: usize, values: &[u8]) {
+    for (byte, value) in bytes.iter_mut().skip(at).zip(values) {
+        *byte = *value;
+    }
 }
 
-fn said(heap: Global, bytes: &[u8]) -> Said {
+// What reading says of the bytes.
+pub fn said(heap: Global, bytes: &[u8]) -> Said {
     match Case::read(heap, bytes) {
         Ok(_) => ACCEPTED,
-        Err(fault) => [
-            fault.layer() as usize,
-            fault.number() as usize,
-            fault.place(),
-        ],
+        Err(fault) => Err(refused(&fault)),
     }
+}
+
+// What a fault tells of itself.
+pub fn refused(fault: &impl Fault) -> Refused {
+    (fault.layer(), fault.number(), fault.place())
 }

@@ -1,11 +1,15 @@
-use Rattle.std.proofs.Common.{ap, arith}
-use Rattle.system.specs.Literals.{size}
-use Rattle.lists.proofs.Spelled.{clauses_size}
+use Rattle.std.proofs.Common.{rules, ◌<◌, ◌^◌, arith, length}
+use Rattle.std.specs.List.{sum_by}
+use Rattle.std.proofs.iter.Rest.{running}
+use Rattle.lists.specs.Lists.{clauses_of}
+use Rattle.lists.proofs.Spelled.{clauses_size, size_sum}
 use Rattle.lists.proofs.list.ClauseList.literals.Goals as goal
 
-pub overflow_add-total : goal.overflow_add-total
-overflow_add-total c =
+pub sum-requires-clause-fits : goal.sum-requires-clause-fits
+sum-requires-clause-fits c =
     let s = c.args.self.now in
-    let h = clauses_size s.count s.bytes.now in
-    let e = ap size c.in-Some.ensures.steps in
-    omega arith
+    let h : sum_by length (clauses_of s) < 2 ^ 64 = omega (arith, clauses_size s.count s.bytes.now, size_sum (clauses_of s)) in
+    search (rules, running)
+
+pub returns : goal.returns
+returns c = let e = size_sum (clauses_of c.args.self.now) in search (rules, running)

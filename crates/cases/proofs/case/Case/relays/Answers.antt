@@ -1,8 +1,0 @@
-use Rattle.std.proofs.Common.{ap, ◌∙◌}
-use Rattle.layout.specs.Reading.{field}
-use Rattle.cases.specs.Meaning.{system_of}
-use Rattle.cases.proofs.case.Case.relays.Goals as goal
-
-pub returns : goal.returns
-unfolding system_of
-returns c = c.read_field.ensures ∙ ap (λ bs. field bs 0) c.content.ensures.value

@@ -1,0 +1,36 @@
+// What every fault tells of itself.
+ghost use Rattle.std.specs.Prelude.{◌≡◌};
+
+use crate::refusal::Refusal;
+
+pub trait Fault {
+    ghost use Rattle.faults.specs.declared.refusal.Refusal.{Refusal};
+
+    ghost refusal: { Self → Refusal };
+
+    // Layer, number and place in one.
+    fn refusal(&self) -> Refusal
+        ensures { result ≡ refusal self.now };
+
+    // The layer that refuses: that of the fault inside where there is one.
+    fn layer(&self) -> u32
+        ensures { result ≡ (refusal self.now).layer }
+    {
+        self.refusal().layer
+    }
+
+    // The number of the refusal.
+    fn number(&self) -> u32
+        ensures { result ≡ (refusal self.now).number }
+    {
+        self.refusal().number
+    }
+
+    // What the refusal points at: a byte index, but for Short the count of bytes, and for NoSuchClause the number that
+    // was given.
+    fn place(&self) -> usize
+        ensures { result ≡ (refusal self.now).place }
+    {
+        self.refusal().place
+    }
+}
