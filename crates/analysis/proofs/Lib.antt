@@ -1,1 +1,2 @@
 mod Resolving
+mod Walking

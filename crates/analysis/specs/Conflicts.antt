@@ -1,5 +1,6 @@
 -- What a conflict teaches: a clause that forces a variable at an earlier choice, or that nothing can be true.
-use Rattle.std.specs.Prelude.{◌≡◌, ℕ, ◌+◌, ◌<◌, ◌≤◌, Bool, true, not, List, length, take, Some, None, Option, slice_index_or}
+use Rattle.std.specs.Prelude.{◌≡◌, ℕ, ◌+◌, ◌<◌, ◌≤◌, Bool, true, not, List, length, take, Some, None, Option, IfSome, slice_index_or}
+use Rattle.system.specs.Literals.{bit}
 use Rattle.masks.specs.Masks.{none, Implied}
 use Rattle.masks.specs.Questions.{Hopeless}
 use Rattle.masks.specs.declared.mask.ClauseMask.{ClauseMask}
@@ -17,6 +18,10 @@ Named ds j = (b : Bool) × (has ds j b ≡ true)
 -- the entry at k is a choice
 abbrev pub ChosenAt : List Decision → ℕ → Type 0
 ChosenAt ds k = (e : Decision) → (slice_index_or ds k e).forcing ≡ Chosen
+
+-- a choice, up to the entry last, before which each of the needed variables has a value
+abbrev pub Lands : List Decision → ℕ → ℕ → Option ℕ → Type 0
+Lands ds last needed r = IfSome r (λ to. (to ≤ last) × ChosenAt ds to × ((j : ℕ) → bit needed j ≡ true → Named (take to ds) j))
 
 -- the clause behind a decision
 abbrev pub reason_of : Forcing → ClauseMask
@@ -36,6 +41,6 @@ Asserts ds at clause (Some to) = (to ≤ at) × ChosenAt ds to
 abbrev pub Analyzed : List Decision → ClauseMask → Option Jump → Type 0
 Analyzed ds conflict None = (base : List (List ℕ)) → Refuted conflict ds → Sound base ds → Implied base conflict → Hopeless base
 Analyzed ds conflict (Some j) =
-    (j.to < length ds) × (j.variable < 128) × Free (take j.to ds) j.variable × ChosenAt ds j.to
+    (j.to < length ds) × (j.literal.variable < 128) × Free (take j.to ds) j.literal.variable × ChosenAt ds j.to
     × ((base : List (List ℕ)) → Refuted conflict ds → Sound base ds → Implied base conflict
-    → Implied base j.clause × Forces j.clause (take j.to ds) j.variable j.value)
+    → Implied base j.clause × Forces j.clause (take j.to ds) j.literal.variable j.literal.value)

@@ -1,13 +1,12 @@
 // Resolution back along the trail.
-ghost use Rattle.std.specs.Prelude.{◌≡◌, ℕ, ◌<◌, ◌≤◌, Bool, true, not, ◌&&◌, ◌||◌, length, take, IfSome, ◌==◌};
-ghost use Rattle.system.specs.Literals.{bit};
+ghost use Rattle.std.specs.Prelude.{◌≡◌, ℕ, ◌<◌, Bool, true, not, ◌&&◌, ◌||◌, length, ◌==◌};
 ghost use Rattle.masks.specs.Masks.{inside};
 ghost use Rattle.trail.specs.Decisions.{distinct};
 ghost use Rattle.trail.specs.Entries.{entries};
-ghost use Rattle.analysis.specs.Conflicts.{Named, ChosenAt, reason_of, Asserts, Analyzed};
+ghost use Rattle.analysis.specs.Conflicts.{Lands, reason_of, Asserts, Analyzed};
 
 use crate::jump::Jump;
-use masks::{ClauseMask, mentions, resolved, variables, without};
+use masks::{ClauseMask, Literal, set_of, without};
 use trail::{Decision, Forcing, Trail};
 
 // The variables that have a value before the last choice. Nothing rests on it but speed.
@@ -15,10 +14,10 @@ fn settled(decisions: &[Decision]) -> u128 {
     let mut known = 0u128;
     let mut before = 0u128;
     for decision in decisions {
-        if let Forcing::Chosen = decision.forcing {
+        if matches!(decision.forcing, Forcing::Chosen) {
             before = known;
         }
-        known |= 1u128 << decision.variable;
+        known |= set_of(decision.variable);
     }
     before
 }
@@ -26,17 +25,14 @@ fn settled(decisions: &[Decision]) -> u128 {
 // The first choice, up to the entry last, before which each of the needed variables has a value.
 fn landing(decisions: &[Decision], last: usize, needed: u128) -> Option<usize>
     requires { last < length decisions.now }
-    ensures { IfSome result (λ to. (to ≤ last) × ChosenAt decisions.now to × ((j : ℕ) → bit needed j ≡ true → Named (take to decisions.now) j)) }
+    ensures { Lands decisions.now last needed result }
 {
     let mut rest = needed;
-    for i in 0..last + 1 {
-        let decision = decisions[i];
-        if rest == 0 {
-            if let Forcing::Chosen = decision.forcing {
-                return Some(i);
-            }
+    for (i, decision) in decisions[..=last].iter().enumerate() {
+        if rest == 0 && matches!(decision.forcing, Forcing::Chosen) {
+            return Some(i);
         }
-        rest = without(rest, 1u128 << decision.variable);
+        rest = without(rest, set_of(decision.variable));
     }
     None
 }
@@ -49,26 +45,24 @@ fn asserted(decisions: &[Decision], at: usize, clause: ClauseMask, settled: u128
     ensures { Asserts decisions.now at clause result }
 {
     let decision = decisions[at];
-    let needed = without(variables(clause), 1u128 << decision.variable);
-    if without(needed, settled) == 0 {
-        if let Some(to) = landing(decisions, at, needed) {
-            return Some(to);
-        }
-    }
-    match decision.forcing {
-        Forcing::Chosen => Some(at),
-        _ => None,
-    }
+    let needed = without(clause.variables(), set_of(decision.variable));
+    let earlier = if without(needed, settled) == 0 {
+        landing(decisions, at, needed)
+    } else {
+        None
+    };
+    earlier.or(matches!(decision.forcing, Forcing::Chosen).then_some(at))
 }
 
 // The clause without the variable of the decision, and with the other literals of what forced it.
 fn reduced(clause: ClauseMask, decision: Decision) -> ClauseMask
     ensures { (j : ℕ) (b : Bool) → inside result j b ≡ ((inside clause j b || inside (reason_of decision.forcing) j b) && not (j == decision.variable)) }
 {
-    match decision.forcing {
-        Forcing::Forced(reason) => resolved(clause, reason, decision.variable),
-        _ => resolved(clause, ClauseMask::NONE, decision.variable),
-    }
+    let reason = match decision.forcing {
+        Forcing::Forced(reason) => reason,
+        Forcing::Assumed | Forcing::Chosen => ClauseMask::NONE,
+    };
+    clause.resolved(reason, decision.variable)
 }
 
 // What follows of a clause that is all false: where to jump back to and what is forced there, or that nothing can be true.
@@ -78,20 +72,19 @@ pub fn analyze(trail: &Trail, conflict: ClauseMask) -> Option<Jump>
     let decisions = trail.decisions();
     let settled = settled(decisions);
     let mut clause = conflict;
-    let mut at = decisions.len();
-    while at > 0 {
-        at -= 1;
-        let decision = decisions[at];
-        if mentions(clause, decision.variable) {
+    for (at, decision) in decisions.iter().enumerate().rev() {
+        if clause.mentions(decision.variable) {
             if let Some(to) = asserted(decisions, at, clause, settled) {
                 return Some(Jump {
                     to,
-                    variable: decision.variable,
-                    value: !decision.value,
+                    literal: Literal {
+                        variable: decision.variable,
+                        value: !decision.value,
+                    },
                     clause,
                 });
             }
-            clause = reduced(clause, decision);
+            clause = reduced(clause, *decision);
         }
     }
     None

@@ -1,10 +1,9 @@
-// Where to jump back to: the entry of the trail that changes, and the clause that forces a variable there.
-use masks::ClauseMask;
+// Where to jump back to: the entry of the trail that changes, the literal that is forced there, and the clause that forces it.
+use masks::{ClauseMask, Literal};
 
-#[derive(Clone, Copy)]
+#[derive(Clone, Copy, PartialEq, Eq, Debug)]
 pub struct Jump {
     pub to: usize,
-    pub variable: u8,
-    pub value: bool,
+    pub literal: Literal,
     pub clause: ClauseMask,
 }

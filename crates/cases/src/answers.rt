@@ -48,6 +48,7 @@ impl Case {
     pub fn list(&self, list: ListName) -> ClauseList<'_>
         ensures { clauses_of result ≡ list_of list self.now }
     {
+        // stays a cast, here and below: no From leads from a u32 to a usize
         let count = read_field(self.bytes(), list.count_place()) as usize;
         ClauseList::over(count, self.from_list(list))
     }

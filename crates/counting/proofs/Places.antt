@@ -1,32 +1,27 @@
 -- The step to the next assignment, and the number that rises as assignments go by. Assumes nothing.
-use Rattle.std.proofs.Common.{◌≡◌, ℕ, zero, suc, ◌+◌, ◌-◌, ◌*◌, ◌%◌, ◌^◌, ◌<◌, ◌≤◌, Bool, true, false, cond, ◌||◌, eqb, refl, ap, ◌∙◌, ap₂, pow-suc, arith, pow_mono}
+use Rattle.std.proofs.Common.{◌≡◌, ℕ, zero, suc, ◌+◌, ◌*◌, ◌%◌, ◌^◌, ◌<◌, ◌≤◌, Bool, true, false, cond, ◌||◌, eqb, refl, ap, ◌∙◌, ap₂, pow-suc, arith, pow_mono}
 use mathlib.Core.Bool.{or-false}
 use lib.Bits.{bit_or}
-use lib.Count.{count_leading_zeros, leading_top}
 use Rattle.std.proofs.lemmas.Nat.{one_shl}
 use Rattle.std.proofs.lemmas.Bool.{eq-eqb, ne_eqb, or_right, or_from}
 use Rattle.system.specs.Literals.{bit}
 use Rattle.system.proofs.Bits.{bit_of_or, bit_pow, bit_above, bit_top, low_bits, high_bits}
 use Rattle.counting.specs.Orders.{rank, Stepped}
 
-pub stepped : (t f q b : ℕ) → 0 < f → f < 2 ^ 128 → q ≡ 127 - count_leading_zeros 128 f → b ≡ (1 * 2 ^ q) % 2 ^ 128 → Stepped t f (bit_or (t % b) b) q
-stepped t f q b p h e g = go (leading_top 128 f p h)
-  where
-    go : ((j : ℕ) × (count_leading_zeros 128 f + suc j ≡ 128) × (2 ^ j ≤ f) × (f < 2 ^ suc j)) → Stepped t f (bit_or (t % b) b) q
-    go (j, n, l, k) =
-        let qj : q ≡ j = omega arith in
-        let small : q < 128 = omega arith in
-        let bq : b ≡ 2 ^ q = g ∙ one_shl q 128 small in
-        let bits : (i : ℕ) → bit (bit_or (t % b) b) i ≡ (bit (t % 2 ^ q) i || eqb i q) =
-        λ i. ap (λ x. bit (bit_or (t % x) x) i) bq ∙ bit_of_or (t % 2 ^ q) (2 ^ q) i ∙ ap (λ x. bit (t % 2 ^ q) i || x) (bit_pow q i) in
-        record {
-          small = small;
-          last = ap (bit f) qj ∙ bit_top f j l k;
-          above = λ i d. bit_above f i (let m = pow_mono {i = suc j} {j = i} (omega arith) in omega arith);
-          now_true = bits q ∙ or_right (bit (t % 2 ^ q) q) (eqb q q) (eq-eqb q q refl);
-          same = λ i d. bits i ∙ ap₂ ◌||◌ (low_bits t i q d) (ne_eqb i q (omega arith)) ∙ or-false (bit t i);
-          cleared = λ i d. bits i ∙ or_from (bit (t % 2 ^ q) i) (eqb i q) (high_bits t i q (omega arith)) (ne_eqb i q (omega arith));
-        }
+pub stepped : (t f q b : ℕ) → q < 128 → 2 ^ q ≤ f → f < 2 * 2 ^ q → b ≡ (1 * 2 ^ q) % 2 ^ 128 → Stepped t f (bit_or (t % b) b) q
+stepped t f q b small l k g =
+    let bq : b ≡ 2 ^ q = g ∙ one_shl q 128 small in
+    let top : f < 2 ^ suc q = omega (arith, pow-suc 2 q) in
+    let bits : (i : ℕ) → bit (bit_or (t % b) b) i ≡ (bit (t % 2 ^ q) i || eqb i q) =
+    λ i. ap (λ x. bit (bit_or (t % x) x) i) bq ∙ bit_of_or (t % 2 ^ q) (2 ^ q) i ∙ ap (λ x. bit (t % 2 ^ q) i || x) (bit_pow q i) in
+    record {
+      small = small;
+      last = bit_top f q l top;
+      above = λ i d. bit_above f i (let m = pow_mono {i = suc q} {j = i} (omega arith) in omega arith);
+      now_true = bits q ∙ or_right (bit (t % 2 ^ q) q) (eqb q q) (eq-eqb q q refl);
+      same = λ i d. bits i ∙ ap₂ ◌||◌ (low_bits t i q d) (ne_eqb i q (omega arith)) ∙ or-false (bit t i);
+      cleared = λ i d. bits i ∙ or_from (bit (t % 2 ^ q) i) (eqb i q) (high_bits t i q (omega arith)) (ne_eqb i q (omega arith));
+    }
 
 -- the place in the order
 pub rank_below : (n : ℕ) (p : ℕ → Bool) → rank n p < 2 ^ n

@@ -1,21 +1,6 @@
--- The order of the assignments, and which clauses are asked about.
-use Rattle.std.specs.Prelude.{◌≡◌, ℕ, zero, suc, ◌+◌, ◌^◌, ◌<◌, Bool, true, false, cond, ◌⊎◌, List, length, slice_index, slice_index_or}
+-- The order of the assignments, and the step from one to the next.
+use Rattle.std.specs.Prelude.{◌≡◌, ℕ, zero, suc, ◌+◌, ◌^◌, ◌<◌, Bool, true, false, cond}
 use Rattle.system.specs.Literals.{Valuation, bit}
-use Rattle.masks.specs.Masks.{inside, Apart}
-use Rattle.masks.specs.Questions.{unit}
-use Rattle.masks.specs.declared.mask.ClauseMask.{ClauseMask}
-
--- a held clause, or that of an assumed literal
-abbrev pub Among : List ClauseMask → List ℕ → ClauseMask → Type 0
-Among masks assumed m = ((k : ℕ) × (k < length masks) × (m ≡ slice_index_or masks k m)) ⊎ ((k : ℕ) × (k < length assumed) × (m ≡ unit (slice_index assumed k)))
-
--- every variable of the set is one of x
-abbrev pub Within : ℕ → ClauseMask → Type 0
-Within x m = (j : ℕ) (c : Bool) → inside m j c ≡ true → bit x j ≡ true
-
--- some clause has no literal in the set
-abbrev pub Missed : List ClauseMask → List ℕ → ClauseMask → Type 0
-Missed masks assumed s = (m : ClauseMask) × Among masks assumed m × Apart m s
 
 -- a, on the variables of x, comes before the assignment t: at the first where they differ a is false
 abbrev pub Before : ℕ → Valuation → ℕ → Type 0

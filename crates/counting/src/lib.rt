@@ -1,8 +1,9 @@
 // A solver that counts through the assignments of the variables that occur: the lowest variable slowest, false first.
 #![tactic(auto)]
 
-mod assignments;
-mod counting;
-mod solving;
+mod counter;
 
-pub use counting::Counting;
+pub use counter::Counter;
+use keeping::Keeping;
+
+pub type Counting = Keeping<Counter>;

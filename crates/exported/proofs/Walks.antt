@@ -1,15 +1,11 @@
 -- A walk along lists: what is left of a list, and one more held or asked. Assumes nothing.
-use Rattle.std.proofs.Common.{◌≡◌, ℕ, ◌+◌, ◌<◌, ◌≤◌, Bool, true, cond, ◌⊎◌, List, [], ◌∷◌, ◌++◌, length, get_or, drop, set, sym, ap, ◌∙◌, subst, subst₂, inl, inr, arith}
-use Rattle.std.proofs.lemmas.List.{append_assoc, length-drop, get_or-drop, drop-drop, get_or-set_same, get_or-set_other}
-use Rattle.std.proofs.lemmas.Bool.{cases_order, cond-true}
+use Rattle.std.proofs.Common.{◌≡◌, ℕ, ◌+◌, ◌<◌, ◌≤◌, ◌⊎◌, List, [], ◌∷◌, length, get_or, drop, set, sym, ap, ◌∙◌, subst, subst₂, inl, inr, arith}
+use Rattle.std.proofs.lemmas.List.{length-drop, get_or-drop, drop-drop, get_or-set_same, get_or-set_other}
+use Rattle.std.proofs.lemmas.Bool.{cases_order}
+use Rattle.std.specs.Prelude.{IsOk, OnOk, Ok, Err, Result}
+use Rattle.exported.specs.declared.fault.AskFault.{AskFault}
 use Rattle.exported.specs.Replies.{Told}
 use Rattle.exported.specs.declared.reply.Reply.{Reply}
-
--- the clause that was left first is held last
-pub held_more : (held after all left rest : List (List ℕ)) (d : List ℕ) (b : Bool) → b ≡ true → after ≡ cond b (held ++ d ∷ []) held → left ≡ d ∷ rest
-    → held ++ left ≡ all → after ++ rest ≡ all
-held_more held after all left rest d b t e f g =
-    ap (λ x. x ++ rest) (e ∙ cond-true _ _ _ t) ∙ append_assoc held (d ∷ []) rest ∙ ap (λ x. held ++ x) (sym f) ∙ g
 
 -- the first of what is left of a list from n on
 pub left_first : (xs rest : List (List ℕ)) (d : List ℕ) (n : ℕ) → drop n xs ≡ d ∷ rest → get_or xs n [] ≡ d
@@ -32,3 +28,8 @@ told_more held questions replies n r h before here k e l = go (cases_order k n)
     go (inl q) = subst₂ (λ j x. Told held (get_or questions j []) x) (sym q) (sym (ap (λ j. get_or (set replies n r) j e) q ∙ get_or-set_same replies n r e h)) here
     go (inr (inl q)) = subst (Told held (get_or questions k [])) (sym (get_or-set_other replies n k r e (λ w. let z : ⊥ = omega arith in z))) (before k e q)
     go (inr (inr q)) = absurd (let z : ⊥ = omega arith in z)
+
+-- what was asked where no fault is told
+pub all_asked : {P : Type 0} (r : Result (Unit {0}) AskFault) → IsOk r → OnOk r P → P
+all_asked (Ok x) i p = p
+all_asked (Err f) i p = grind arith

@@ -2,6 +2,7 @@
 #![tactic(auto)]
 
 mod asking;
+mod fault;
 mod reply;
 
 pub use asking::{hokhnebi_counting, hokhnebi_propagating};

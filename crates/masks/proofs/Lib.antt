@@ -1,2 +1,3 @@
 pub mod Sets
 pub mod Meaning
+pub mod Asked

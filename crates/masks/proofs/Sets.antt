@@ -1,28 +1,43 @@
 -- Sets of literals by membership. Assumes nothing.
-use Rattle.std.proofs.Common.{◌≡◌, ℕ, ◌*◌, ◌%◌, ◌^◌, ◌<◌, Bool, true, false, not, ◌&&◌, ◌||◌, eqb, ◌⊎◌, MatchBool, sym, refl, ap, ◌∙◌, subst, inl, inr, mod-eq_of_lt, arith}
+use Rattle.std.proofs.Common.{◌≡◌, ℕ, zero, suc, ◌-◌, ◌/◌, ◌%◌, ◌^◌, ◌<◌, ◌≤◌, pow_mono, Bool, true, false, not, ◌&&◌, ◌||◌, eqb, ◌⊎◌, MatchBool, sym, refl, ap, ◌∙◌, subst, inl, inr, mod-eq_of_lt, arith}
 use mathlib.Core.Bool.{beq, and-true, and-false, or-false}
-use lib.Bits.{bit_and, bit_or}
-use Rattle.std.proofs.lemmas.Bool.{true≢false, cases_Bool, cases_eq, and_parts, and_from, or_cases, or_parts, or_left, or_right, eq-eqb, ne_eqb, eqb-true, not-true}
-use Rattle.std.proofs.lemmas.Nat.{one_shl}
+use lib.Bits.{bit_and, bit_or, or_lt}
+use lib.Count.{count_trailing_zeros}
+use Rattle.std.proofs.lemmas.Bool.{true≢false, cases_Bool, cases_eq, cases_lt, and_parts, and_from, or_cases, or_parts, or_left, or_right, eq-eqb, ne_eqb, eqb-true, not-true}
+use Rattle.std.proofs.lemmas.Nat.Bits.{bit_at_not}
+use Rattle.std.specs.Int.{bit_not, w128}
+use Rattle.std.specs.Cmp.{booleans_Decides}
 use Rattle.system.specs.Literals.{bit}
-use Rattle.system.proofs.Bits.{bit_of_and, bit_of_or, bit_none, bit_pow, lowest}
+use Rattle.system.proofs.Bits.{bit_of_and, bit_of_or, bit_none, bit_pow, bit_above, Lowest, lowest}
 use Rattle.masks.specs.Masks.{inside, none, with_value, Meets, Apart}
-use Rattle.masks.specs.Standings.{Unassigned, Alone, AllFalse}
+use Rattle.masks.specs.Standings.{Unassigned, Alone, AllFalse, Stands}
+use Rattle.masks.specs.declared.mask.Standing.TheVariants.{Forces}
 use Rattle.masks.specs.declared.mask.ClauseMask.{ClauseMask}
+
+-- a and not b
+pub bit_and_not : (a b j : ℕ) → a < 2 ^ 128 → b < 2 ^ 128 → bit (bit_and a (bit_not w128 b)) j ≡ (bit a j && not (bit b j))
+bit_and_not a b j h k = bit_of_and a (bit_not w128 b) j ∙ go (cases_lt j 128)
+  where
+    flipped : (d : ℕ) → d < 2 → eqb (1 - d) 1 ≡ not (eqb d 1)
+    flipped zero l = refl
+    flipped (suc zero) l = refl
+    flipped (suc (suc d)) l = absurd (let z : ⊥ = omega arith in z)
+
+    go : (j < 128) ⊎ (128 ≤ j) → (bit a j && bit (bit_not w128 b) j) ≡ (bit a j && not (bit b j))
+    go (inl l) = ap (λ x. bit a j && x) (ap (λ x. eqb x 1) (bit_at_not w128 b j k l) ∙ flipped (b / 2 ^ j % 2) (omega arith))
+    go (inr g) =
+        let n : bit a j ≡ false = bit_above a j (let m = pow_mono {i = 128} {j = j} g in omega arith) in
+        ap (λ x. x && bit (bit_not w128 b) j) n ∙ sym (ap (λ x. x && not (bit b j)) n)
 
 -- a test that cannot be both
 pub clash : {A : Type 0} (b : Bool) → b ≡ true → b ≡ false → A
 clash b t f = absurd (true≢false (sym t ∙ f))
 
 pub beq_same : (b : Bool) → beq b b ≡ true
-beq_same true = refl
-beq_same false = refl
+beq_same b = (booleans_Decides b b).1 refl
 
 pub beq_true : (a b : Bool) → beq a b ≡ true → a ≡ b
-beq_true true true e = refl
-beq_true true false e = clash false e refl
-beq_true false true e = clash false e refl
-beq_true false false e = refl
+beq_true a b = (booleans_Decides a b).0
 
 -- two tests agree or are opposite, and not both
 pub same_or_not : (x y : Bool) → (x ≡ y) ⊎ (x ≡ not y)
@@ -75,18 +90,26 @@ module _ (m s : ClauseMask) where
           let l = lowest 128 both (omega arith) h in
           subst (λ b. MatchBool (not b) (Meets m s) (Apart m s)) (sym (ne_eqb both 0 n)) (found _ l.is)
 
--- a clause of which no literal is true, by its open literals o
-module _ (m s o : ClauseMask) (k : ℕ)
+-- a clause of which no literal is true, by its variables that have no value, the plain p and the negated n
+module _ (m s : ClauseMask) (p n k : ℕ)
     (apart : Apart m s)
     (known : (j : ℕ) → bit k j ≡ (inside s j true || inside s j false))
-    (opens : (j : ℕ) (b : Bool) → inside o j b ≡ (inside m j b && not (bit k j))) where
+    (plain : (j : ℕ) → bit p j ≡ (bit m.positive j && not (bit k j)))
+    (negated : (j : ℕ) → bit n j ≡ (bit m.negative j && not (bit k j))) where
+  abbrev o : ClauseMask
+  o = record { positive = p; negative = n }
+
+  opens : (j : ℕ) (b : Bool) → inside o j b ≡ (inside m j b && not (bit k j))
+  opens j true = plain j
+  opens j false = negated j
+
   opposite : (j : ℕ) (b : Bool) → inside m j b ≡ true → bit k j ≡ true → inside s j (not b) ≡ true
   opposite j true t h =
       elim (or_cases (inside s j true) (inside s j false) (sym (known j) ∙ h))
-      [ inl p ↦ clash (inside s j true) p (apart j true t) | inr n ↦ n ]
+      [ inl e ↦ clash (inside s j true) e (apart j true t) | inr e ↦ e ]
   opposite j false t h =
       elim (or_cases (inside s j true) (inside s j false) (sym (known j) ∙ h))
-      [ inl p ↦ p | inr n ↦ clash (inside s j false) n (apart j false t) ]
+      [ inl e ↦ e | inr e ↦ clash (inside s j false) e (apart j false t) ]
 
   open_or_false : (j : ℕ) (b : Bool) → inside m j b ≡ true → (inside o j b ≡ true) ⊎ (inside s j (not b) ≡ true)
   open_or_false j b t =
@@ -99,24 +122,28 @@ module _ (m s o : ClauseMask) (k : ℕ)
       let e = or_parts (inside s j true) (inside s j false) (sym (known j) ∙ not-true (bit k j) q) in
       elim c as (λ x. inside s j x ≡ false) [ true ↦ e.0 | false ↦ e.1 ]
 
-  some_of : (j : ℕ) (b : Bool) → inside o j b ≡ true → bit (bit_or o.positive o.negative) j ≡ true
-  some_of j true t = bit_of_or _ _ j ∙ or_left (bit o.positive j) (bit o.negative j) t
-  some_of j false t = bit_of_or _ _ j ∙ or_right (bit o.positive j) (bit o.negative j) t
+  some_of : (j : ℕ) (b : Bool) → inside o j b ≡ true → bit (bit_or p n) j ≡ true
+  some_of j true t = bit_of_or _ _ j ∙ or_left (bit p j) (bit n j) t
+  some_of j false t = bit_of_or _ _ j ∙ or_right (bit p j) (bit n j) t
 
-  pub none_open : bit_or o.positive o.negative ≡ 0 → AllFalse m s
+  pub none_open : bit_or p n ≡ 0 → AllFalse m s
   none_open e j b t =
       elim (open_or_false j b t)
-      [ inl p ↦ clash (bit (bit_or o.positive o.negative) j) (some_of j b p) (ap (λ x. bit x j) e ∙ bit_none j) | inr q ↦ q ]
+      [ inl q ↦ clash (bit (bit_or p n) j) (some_of j b q) (ap (λ x. bit x j) e ∙ bit_none j) | inr q ↦ q ]
 
-  -- v is the only open variable, and only with the sign b
-  pub one_open : (v : ℕ) (b : Bool) → bit_or o.positive o.negative ≡ 2 ^ v → ((j : ℕ) → inside o j (not b) ≡ false) → (inside m v b ≡ true) × Unassigned s v × Alone m s v b
-  one_open v b e n = (own (or_cases (inside o v true) (inside o v false) (sym (bit_of_or _ _ v) ∙ here)), unassigned, alone)
+  -- where just one is left, and no literal of it with the other sign, it is forced
+  pub one_open : (b : Bool) → p < 2 ^ 128 → n < 2 ^ 128 → (bit_or p n ≡ 0 → ⊥) → bit_or p n ≡ 2 ^ (count_trailing_zeros 128 (bit_or p n) % 128) → ((j : ℕ) → inside o j (not b) ≡ false)
+      → Stands m s (Forces (record { variable = count_trailing_zeros 128 (bit_or p n); value = b }))
+  one_open b pl nl z e other = (first.small, own (or_cases (bit p v) (bit n v) (sym (bit_of_or p n v) ∙ first.is)), unassigned, alone)
     where
-      here : bit (bit_or o.positive o.negative) v ≡ true
-      here = ap (λ x. bit x v) e ∙ bit_pow v v ∙ eq-eqb v v refl
+      first : Lowest 128 (bit_or p n) (count_trailing_zeros 128 (bit_or p n))
+      first = lowest 128 (bit_or p n) (omega arith) (or_lt 128 p n pl nl)
+
+      v : ℕ
+      v = count_trailing_zeros 128 (bit_or p n)
 
       unassigned : Unassigned s v
-      unassigned = elim (or_cases (inside o v true) (inside o v false) (sym (bit_of_or _ _ v) ∙ here)) [ inl p ↦ free v true p | inr q ↦ free v false q ]
+      unassigned = elim (or_cases (bit p v) (bit n v) (sym (bit_of_or p n v) ∙ first.is)) [ inl q ↦ free v true q | inr q ↦ free v false q ]
 
       same : (c d : Bool) (j : ℕ) → ((i : ℕ) → inside o i (not d) ≡ false) → inside o j c ≡ true → c ≡ d
       same true true j f t = refl
@@ -125,23 +152,25 @@ module _ (m s o : ClauseMask) (k : ℕ)
       same false false j f t = refl
 
       from_open : (c : Bool) → inside o v c ≡ true → inside m v b ≡ true
-      from_open c t = subst (λ x. inside m v x ≡ true) (same c b v n t) (and_parts (inside m v c) (not (bit k v)) (sym (opens v c) ∙ t)).0
+      from_open c t = subst (λ x. inside m v x ≡ true) (same c b v other t) (and_parts (inside m v c) (not (bit k v)) (sym (opens v c) ∙ t)).0
 
-      own : (inside o v true ≡ true) ⊎ (inside o v false ≡ true) → inside m v b ≡ true
-      own (inl p) = from_open true p
+      own : (bit p v ≡ true) ⊎ (bit n v ≡ true) → inside m v b ≡ true
+      own (inl q) = from_open true q
       own (inr q) = from_open false q
 
       alone : Alone m s v b
       alone j c t =
-          elim (open_or_false j c t)
-          [ inl p ↦ inl (eqb-true j v (sym (bit_pow v j) ∙ sym (ap (λ x. bit x j) e) ∙ some_of j c p), same c b j n p) | inr q ↦ inr q ]
+          elim (open_or_false j c t) [
+            | inl q ↦ inl (eqb-true j v (sym (ap (λ x. bit x j) (e ∙ ap (λ x. 2 ^ x) (mod-eq_of_lt first.small)) ∙ bit_pow v j) ∙ some_of j c q), same c b j other q)
+            | inr q ↦ inr q
+          ]
 
 eqb_swap : (i j : ℕ) → eqb i j ≡ eqb j i
 eqb_swap i j = elim (cases_eq i j) [ inl e ↦ eq-eqb i j e ∙ sym (eq-eqb j i (sym e)) | inr n ↦ ne_eqb i j n ∙ sym (ne_eqb j i (λ e. n (sym e))) ]
 
--- the bits of a shifted 1
-pub bit_of : (v j : ℕ) → v < 128 → bit ((1 * 2 ^ v) % 2 ^ 128) j ≡ eqb j v
-bit_of v j h = ap (λ x. bit x j) (one_shl v 128 h) ∙ bit_pow v j
+-- the bits of the set of one variable
+pub bit_of : (s v j : ℕ) → v < 128 → s ≡ 2 ^ (v % 128) → bit s j ≡ eqb j v
+bit_of s v j h e = ap (λ x. bit x j) (e ∙ ap (λ k. 2 ^ k) (mod-eq_of_lt h)) ∙ bit_pow v j
 
 -- the literals of a set with one more
 pub with_inside : (m : ClauseMask) (v : ℕ) (b : Bool) (j : ℕ) (c : Bool) → inside (with_value m v b) j c ≡ (inside m j c || (eqb v j && beq b c))

@@ -21,5 +21,5 @@ AllFalse m s = (j : ℕ) (c : Bool) → inside m j c ≡ true → inside s j (no
 abbrev pub Stands : ClauseMask → ClauseMask → Standing → Type 0
 Stands m s True = Meets m s
 Stands m s Open = Apart m s
-Stands m s (Forces v b) = (v < 128) × (inside m v b ≡ true) × Unassigned s v × Alone m s v b
+Stands m s (Forces l) = (l.variable < 128) × (inside m l.variable l.value ≡ true) × Unassigned s l.variable × Alone m s l.variable l.value
 Stands m s False = AllFalse m s

@@ -2,7 +2,7 @@
 // first.
 #![tactic(auto)]
 
-mod propagating;
-mod solving;
+use keeping::Keeping;
+use search::Search;
 
-pub use propagating::Propagating;
+pub type Propagating = Keeping<Search>;

@@ -1,14 +1,17 @@
 -- What the steps of a search do: propagating, choosing, and jumping back.
-use Rattle.std.specs.Prelude.{◌≡◌, ℕ, ◌<◌, List, ◌++◌, Some, None, Option}
-use Rattle.masks.specs.Masks.{Implied, Apart}
-use Rattle.masks.specs.Questions.{Each, Given, Hopeless, AllMet, AllKept}
+use Rattle.std.specs.Prelude.{◌≡◌, ℕ, ◌<◌, List, ◌++◌, Some, None, Option, vec_items}
+use Rattle.masks.specs.Masks.{Implied}
+use Rattle.masks.specs.Questions.{Each, Given, Hopeless, AllMet, AllKept, Among, Within}
+use Rattle.masks.specs.declared.question.Question.{Question}
 use Rattle.masks.specs.declared.mask.ClauseMask.{ClauseMask}
 use Rattle.masks.specs.declared.mask.Standing.{Standing}
 use Rattle.masks.specs.declared.mask.Standing.TheVariants.{True, Open, Forces, False}
+use Rattle.trail.specs.Entries.{entries}
 use Rattle.trail.specs.Reasons.{Refuted, Sound, height}
 use Rattle.trail.specs.declared.decision.Decision.{Decision}
-use Rattle.search.specs.declared.outcome.Outcome.{Outcome}
-use Rattle.search.specs.declared.outcome.Outcome.TheVariants.{Yes, No, Again}
+use Rattle.search.specs.declared.progress.Progress.{Progress}
+use Rattle.search.specs.declared.progress.Progress.TheVariants.{Satisfied, Further}
+use Rattle.search.specs.declared.search.Search.{Search}
 
 -- decisions were added at the end
 abbrev pub Extends : List Decision → List Decision → Type 0
@@ -18,7 +21,7 @@ Extends ds es = (more : List Decision) × (es ≡ ds ++ more)
 abbrev pub Visited : ClauseMask → List Decision → Standing → Type 0
 Visited m ds True = Unit {0}
 Visited m ds Open = Unit {0}
-Visited m ds (Forces v b) = Unit {0}
+Visited m ds (Forces l) = Unit {0}
 Visited m ds False = Refuted m ds
 
 -- a clause that is all false, and implied wherever the premise holds
@@ -26,17 +29,35 @@ abbrev pub Conflict : List Decision → (List (List ℕ) → Type 0) → Option 
 Conflict ds premise None = Unit {0}
 Conflict ds premise (Some m) = Refuted m ds × ((base : List (List ℕ)) → premise base → Implied base m)
 
--- all is true, or a clause of which no literal is
-abbrev pub Checked : ClauseMask → Type 0 → (List (List ℕ) → Type 0) → Option ClauseMask → Type 0
-Checked assigned all premise None = all
-Checked assigned all premise (Some m) = Apart m assigned × ((base : List (List ℕ)) → premise base → Implied base m)
+-- what a question asks about: the clauses that are held and the literals that are assumed follow from base
+abbrev pub Asked : Question → List (List ℕ) → Type 0
+Asked question base = Given question.masks.now question.assumed.now base
+
+-- every variable of the question is one of x
+abbrev pub Occurring : Question → ℕ → Type 0
+Occurring question x = (m : ClauseMask) → Among question.masks.now question.assumed.now m → Within x m
 
 -- the decisions stand and the learned clauses are implied
-abbrev pub Upheld : List (List ℕ) → List Decision → List ClauseMask → Type 0
-Upheld base ds learned = Sound base ds × Each base learned
+abbrev pub Upheld : List (List ℕ) → Search → Type 0
+Upheld base s = Sound base (entries s.trail) × Each base (vec_items s.learned.clauses)
 
--- what a turn comes to: all is true; nothing can be; or the number has risen
-abbrev pub Turned : List ClauseMask → List ℕ → List Decision → List ClauseMask → List Decision → ClauseMask → Outcome → Type 0
-Turned masks assumed before learned after assigned Yes = AllMet masks assigned × AllKept assumed assigned
-Turned masks assumed before learned after assigned No = (base : List (List ℕ)) → Given masks assumed base → Upheld base before learned → Hopeless base
-Turned masks assumed before learned after assigned Again = height 128 before < height 128 after
+-- wherever the premise holds, they do so afterwards if they did before
+abbrev pub Keeps : (List (List ℕ) → Type 0) → Search → Search → Type 0
+Keeps premise before after = (base : List (List ℕ)) → premise base → Upheld base before → Upheld base after
+
+-- wherever the premise holds and they do so, nothing can be true
+abbrev pub Refutes : (List (List ℕ) → Type 0) → Search → Type 0
+Refutes premise s = (base : List (List ℕ)) → premise base → Upheld base s → Hopeless base
+
+-- the number of the trail rises
+abbrev pub Rises : Search → Search → Type 0
+Rises before after = height 128 (entries before.trail) < height 128 (entries after.trail)
+
+-- by the trail every clause and every assumed literal is true
+abbrev pub Satisfies : Search → Question → Type 0
+Satisfies s question = AllMet question.masks.now s.trail.assigned × AllKept question.assumed.now s.trail.assigned
+
+-- what a turn comes to: all is true, or the number has risen
+abbrev pub Turned : Question → Search → Search → Progress → Type 0
+Turned question before after Satisfied = Satisfies after question
+Turned question before after Further = Rises before after

@@ -27,10 +27,9 @@ impl Learned {
         ensures room { vec_len self.new.clauses < 1024 }
         ensures each { (base : List (List ℕ)) → Each base self.old.clauses.items → Each base self.new.clauses.items }
     {
-        if self.clauses.len() < 1024 {
-            return;
+        if self.clauses.len() >= 1024 {
+            self.clear();
         }
-        self.clear();
     }
 
     // Keeps the clause, watched by two of its variables, and lets the others go where there is no room.

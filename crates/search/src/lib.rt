@@ -2,9 +2,10 @@
 // variable, false first, until all is true or nothing can be.
 #![tactic(auto)]
 
+mod engine;
 mod learned;
 mod learning;
-mod outcome;
+mod progress;
 mod propagation;
 mod search;
 mod searching;

@@ -1,43 +1,34 @@
-// Unit propagation, and passes over all clauses.
+// Unit propagation.
 ghost use Rattle.std.specs.Prelude.{◌≡◌, ℕ, List};
 ghost use Rattle.masks.specs.Masks.{Implied};
-ghost use Rattle.masks.specs.Questions.{Each, Units, Given, AllMet, AllKept};
+ghost use Rattle.masks.specs.Questions.{Each};
 ghost use Rattle.trail.specs.Entries.{entries};
 ghost use Rattle.trail.specs.Reasons.{Sound};
-ghost use Rattle.search.specs.Searches.{Extends, Conflict, Visited, Checked};
+ghost use Rattle.search.specs.Searches.{Extends, Conflict, Visited, Upheld, Keeps};
 
-use crate::learned::Learned;
+use crate::search::Search;
 use crate::watches::Watches;
-use masks::{ClauseMask, Standing, meets, standing, variables, with_literal};
-use trail::{Forcing, Trail};
+use masks::{ClauseMask, Standing};
+use trail::{Decision, Forcing, Trail};
+
+// The literal that the decision makes false, as its byte. It stays a function of a decision: a literal of a variable above 127
+// has no byte.
+fn falsified(decision: Decision) -> u8 {
+    decision.variable * 2 + u8::from(decision.value)
+}
 
 // Looks at one clause and assigns what it forces; answers how it stood.
 fn visit(trail: &mut Trail, mask: ClauseMask) -> Standing
     ensures more { Extends (entries trail.old) (entries trail.new) }
     ensures sound { (base : List (List ℕ)) → Implied base mask → Sound base (entries trail.old) → Sound base (entries trail.new) }
     ensures found { Visited mask (entries trail.new) result }
+    ensures done { trail.new.done ≡ trail.old.done }
 {
-    let stood = standing(mask, trail.assigned());
-    if let Standing::Forces(variable, value) = stood {
-        trail.assign(variable, value, Forcing::Forced(mask));
+    let stood = mask.standing(trail.assigned());
+    if let Standing::Forces(literal) = stood {
+        trail.assign(literal, Forcing::Forced(mask));
     }
     stood
-}
-
-// Goes through the clauses once: assigns what one forces, watches the open ones, and stops at the first that is all false.
-pub fn sweep(trail: &mut Trail, masks: &[ClauseMask], watches: &mut Watches) -> Option<ClauseMask>
-    ensures sound { (base : List (List ℕ)) → Each base masks.now → Sound base (entries trail.old) → Sound base (entries trail.new) }
-    ensures found { Conflict (entries trail.new) (λ base. Each base masks.now) result }
-{
-    for clause in 0..masks.len() {
-        let mask = masks[clause];
-        let stood = visit(trail, mask);
-        if let Standing::False = stood {
-            return Some(mask);
-        }
-        watches.begin(clause, mask, stood, variables(trail.assigned()));
-    }
-    None
 }
 
 // Looks at the clauses that are watched by the literal, which became false.
@@ -50,88 +41,59 @@ fn follow(
     ensures more { Extends (entries trail.old) (entries trail.new) }
     ensures sound { (base : List (List ℕ)) → Each base masks.now → Sound base (entries trail.old) → Sound base (entries trail.new) }
     ensures found { Conflict (entries trail.new) (λ base. Each base masks.now) result }
+    ensures done { trail.new.done ≡ trail.old.done }
 {
     let mut at = watches.first(literal);
+    // stays a counted loop: no contract tells that the links of a literal go round in no circle
     for _turn in 0..watches.len() {
-        let Some(clause) = watches.clause(at) else {
-            return None;
-        };
-        if clause >= masks.len() {
-            return None;
-        }
-        let mask = masks[clause];
+        let mask = *masks.get(watches.clause(at)?)?;
         let stood = visit(trail, mask);
         if let Standing::False = stood {
             return Some(mask);
         }
-        at = watches.advance(at, mask, stood, variables(trail.assigned()));
+        at = watches.advance(at, mask, stood, trail.assigned().variables());
     }
     None
 }
 
-// Looks at the clauses of the literals that became false, to the last decision or a clause that is all false.
-pub fn propagate(
-    trail: &mut Trail,
-    masks: &[ClauseMask],
-    watches: &mut Watches,
-    learned: &mut Learned,
-) -> Option<ClauseMask>
-    ensures more { Extends (entries trail.old) (entries trail.new) }
-    ensures sound { (base : List (List ℕ)) → Each base masks.now → Each base learned.old.clauses.items → Sound base (entries trail.old) → Sound base (entries trail.new) }
-    ensures learned { learned.new.clauses.items ≡ learned.old.clauses.items }
-    ensures found { Conflict (entries trail.new) (λ base. Each base masks.now × Each base learned.old.clauses.items) result }
-{
-    for _turn in 0..128usize {
-        let Some(decision) = trail.advance() else {
-            return None;
-        };
-        let literal = decision.variable * 2 + if decision.value { 1 } else { 0 };
-        if let Some(mask) = follow(trail, masks, watches, literal) {
-            return Some(mask);
+impl Search {
+    // Goes through the clauses once: assigns what one forces, watches the open ones, and stops at the first that is all false.
+    pub(crate) fn sweep(&mut self, masks: &[ClauseMask]) -> Option<ClauseMask>
+        ensures keeps { Keeps (λ base. Each base masks.now) self.old self.new }
+        ensures found { Conflict (entries self.new.trail) (λ base. Each base masks.now) result }
+    {
+        for (clause, mask) in masks.iter().enumerate() {
+            let stood = visit(&mut self.trail, *mask);
+            if let Standing::False = stood {
+                return Some(*mask);
+            }
+            self.watches
+                .begin(clause, *mask, stood, self.trail.assigned().variables());
         }
-        if let Some(mask) = follow(
-            trail,
-            learned.clauses.as_slice(),
-            &mut learned.watches,
-            literal,
-        ) {
-            return Some(mask);
-        }
+        None
     }
-    None
-}
 
-// The first of the clauses of which no literal is true.
-fn unmet(masks: &[ClauseMask], assigned: ClauseMask) -> Option<ClauseMask>
-    ensures { Checked assigned (AllMet masks.now assigned) (λ base. Each base masks.now) result }
-{
-    for mask in masks {
-        if !meets(*mask, assigned) {
-            return Some(*mask);
+    // Looks at the clauses of the literals that became false, to the last decision or a clause that is all false.
+    pub(crate) fn propagate(&mut self, masks: &[ClauseMask]) -> Option<ClauseMask>
+        ensures more { Extends (entries self.old.trail) (entries self.new.trail) }
+        ensures keeps { Keeps (λ base. Each base masks.now) self.old self.new }
+        ensures found { Conflict (entries self.new.trail) (λ base. Each base masks.now × Upheld base self.old) result }
+    {
+        while let Some(decision) = self.trail.advance() {
+            let literal = falsified(decision);
+            if let Some(mask) = follow(&mut self.trail, masks, &mut self.watches, literal) {
+                return Some(mask);
+            }
+            let learned = &mut self.learned;
+            if let Some(mask) = follow(
+                &mut self.trail,
+                learned.clauses.as_slice(),
+                &mut learned.watches,
+                literal,
+            ) {
+                return Some(mask);
+            }
         }
+        None
     }
-    None
-}
-
-// The clause of the first of the literals that is not true.
-fn unkept(assumed: &[u8], assigned: ClauseMask) -> Option<ClauseMask>
-    ensures { Checked assigned (AllKept assumed.now assigned) (λ base. Units base assumed.now) result }
-{
-    for literal in assumed {
-        let mask = with_literal(ClauseMask::NONE, *literal);
-        if !meets(mask, assigned) {
-            return Some(mask);
-        }
-    }
-    None
-}
-
-// The clause of the first, held or assumed, of which no literal is true: the last pass before a yes.
-pub fn unsatisfied(masks: &[ClauseMask], assumed: &[u8], assigned: ClauseMask) -> Option<ClauseMask>
-    ensures { Checked assigned (AllMet masks.now assigned × AllKept assumed.now assigned) (Given masks.now assumed.now) result }
-{
-    if let Some(mask) = unkept(assumed, assigned) {
-        return Some(mask);
-    }
-    unmet(masks, assigned)
 }

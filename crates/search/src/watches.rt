@@ -1,50 +1,39 @@
 // Two literals of each clause that are watched: the clause is looked at when one of them becomes false. Nothing rests on
 // what is watched but speed: a clause that goes unnoticed is found by the last pass over all held clauses.
-ghost use Rattle.std.specs.Prelude.{◌≡◌, ◌<◌, ◌≤◌, IfOk, vec_len, vec_capacity};
+ghost use Rattle.std.specs.Prelude.{◌<◌, ◌≤◌, vec_len, vec_capacity};
 
-use masks::{ClauseMask, Standing, variables, without};
+use masks::{ClauseMask, Standing, has_variable, set_of, without};
 use std::alloc::{AllocError, Global};
 
-// A watched literal of a clause. The two of a clause stand side by side. `next` is one more than the place of the next
-// link with the same literal, or 0 at the end.
-#[derive(Clone, Copy)]
+// A watched literal of a clause, and the place of the next link with the same literal. The two links of a clause stand
+// side by side.
+#[derive(Clone, Copy, PartialEq, Eq, Debug)]
 struct Link {
     clause: usize,
     literal: u8,
-    next: usize,
+    next: Option<usize>,
 }
 
-// Where a walk along the links of one literal is: one more than the place of a link, or 0 at the end; and the same of the
-// link before it, or 0 at the beginning.
-#[derive(Clone, Copy)]
+// Where a walk along the links of one literal is: the place of a link, or none at the end; and the place of the link before
+// it, or none at the beginning.
+#[derive(Clone, Copy, PartialEq, Eq, Debug)]
 pub struct Cursor {
     literal: u8,
-    before: usize,
-    place: usize,
+    before: Option<usize>,
+    place: Option<usize>,
 }
 
 #[derive(Drop)]
 pub struct Watches {
-    // for each literal one more than the place of its first link, or 0
-    heads: Vec<usize>,
+    // for each literal the place of its first link
+    heads: [Option<usize>; 256],
+    // all links stand in one table, as nothing is allocated once it is made
     links: Vec<Link>,
     room: usize,
-    ghost whole: { vec_len heads ≡ 256 },
     ghost space: { (vec_len links ≤ room) × (room ≤ vec_capacity links) },
 }
 
-// No link for any literal.
-fn no_heads(heap: Global) -> Result<Vec<usize>, AllocError>
-    ensures { IfOk result (λ v. vec_len v ≡ 256) }
-{
-    let mut heads = Vec::with_capacity(heap, 256)?;
-    for _count in 0..256usize {
-        heads.push(0)?;
-    }
-    Ok(heads)
-}
-
-// The highest of the variables, or 0 where there is none.
+// The highest of the variables. It is 0 where there is none, so that each clause has two links all the same.
 fn highest(variables: u128) -> u8
     ensures { result < 128 }
 {
@@ -53,41 +42,42 @@ fn highest(variables: u128) -> u8
 
 // The literal of the variable in the clause, plain where it has both.
 fn literal_in(mask: ClauseMask, variable: u8) -> u8 {
-    let plain = (mask.positive >> (variable % 128)) % 2 == 1;
-    variable % 128 * 2 + if plain { 0 } else { 1 }
+    variable % 128 * 2 + u8::from(!has_variable(mask.positive, variable))
 }
 
 impl Watches {
     // Watches nothing, with room for so many clauses.
     pub fn new(heap: Global, clauses: usize) -> Result<Watches, AllocError> {
-        let heads = no_heads(heap)?;
         let room = clauses.saturating_mul(2);
         let links = Vec::with_capacity(heap, room)?;
-        Ok(Watches { heads, links, room })
+        Ok(Watches {
+            heads: [None; 256],
+            links,
+            room,
+        })
     }
 
     pub fn clear(&mut self) {
         self.links.clear();
-        for literal in 0..256 {
-            self.heads[literal] = 0;
-        }
+        self.heads = [None; 256];
     }
 
     pub fn len(&self) -> usize {
         self.links.len()
     }
 
+    // Watches the literal for the clause, where there is room for one more.
     fn link(&mut self, clause: usize, literal: u8) {
-        if self.links.len() >= self.room {
+        let place = self.links.len();
+        if place >= self.room {
             return;
         }
-        let next = self.heads[literal as usize];
+        let next = self.heads[usize::from(literal)].replace(place);
         self.links.push_reserved(Link {
             clause,
             literal,
             next,
         });
-        self.heads[literal as usize] = self.links.len();
     }
 
     // Watches the literals that the clause has of two variables.
@@ -99,9 +89,9 @@ impl Watches {
     // Watches two open literals of a clause that is open, those of the highest variables, which are chosen last.
     pub fn begin(&mut self, clause: usize, mask: ClauseMask, stood: Standing, known: u128) {
         if let Standing::Open = stood {
-            let open = without(variables(mask), known);
+            let open = without(mask.variables(), known);
             let one = highest(open);
-            self.watch(clause, mask, one, highest(without(open, 1u128 << one)));
+            self.watch(clause, mask, one, highest(without(open, set_of(one))));
         }
     }
 
@@ -109,17 +99,15 @@ impl Watches {
     pub fn first(&self, literal: u8) -> Cursor {
         Cursor {
             literal,
-            before: 0,
-            place: self.heads[literal as usize],
+            before: None,
+            place: self.heads[usize::from(literal)],
         }
     }
 
     // The clause of the link, where there is one.
     pub fn clause(&self, at: Cursor) -> Option<usize> {
-        if at.place == 0 || at.place > self.links.len() {
-            return None;
-        }
-        Some(self.links[at.place - 1].clause)
+        let link = self.links.get(at.place?)?;
+        Some(link.clause)
     }
 
     // The next link of the literal; the clause of an open one comes to be watched by another open literal instead.
@@ -130,55 +118,49 @@ impl Watches {
         stood: Standing,
         known: u128,
     ) -> Cursor {
-        if at.place == 0 || at.place > self.links.len() {
+        let Some(place) = at.place else {
             return at;
-        }
-        let link = self.links[at.place - 1];
+        };
+        let Some(link) = self.links.get(place).copied() else {
+            return at;
+        };
         let Standing::Open = stood else {
             return Cursor {
-                literal: at.literal,
-                before: at.place,
+                before: Some(place),
                 place: link.next,
+                ..at
             };
         };
-        let open = without(variables(mask), known);
-        self.relink(
-            at,
-            literal_in(mask, highest(without(open, self.partner(at.place - 1)))),
-        );
+        let open = without(mask.variables(), known);
+        let other = highest(without(open, self.partner(place)));
+        self.relink(at, place, link, literal_in(mask, other));
         Cursor {
-            literal: at.literal,
-            before: at.before,
             place: link.next,
+            ..at
         }
     }
 
     // The variable of the other link of the same clause, as a bit.
     fn partner(&self, place: usize) -> u128 {
         let other = if place % 2 == 0 { place + 1 } else { place - 1 };
-        if other >= self.links.len() {
-            return 0;
-        }
-        1u128 << (self.links[other].literal / 2)
+        self.links
+            .get(other)
+            .map_or(0, |link| set_of(link.literal / 2))
     }
 
-    // Moves the link to another literal.
-    fn relink(&mut self, at: Cursor, literal: u8) {
-        if at.place == 0 || at.place > self.links.len() {
-            return;
+    // Moves the link at the place to another literal.
+    fn relink(&mut self, at: Cursor, place: usize, link: Link, literal: u8) {
+        match at.before {
+            Some(before) if before < self.links.len() => self.links[before].next = link.next,
+            _ => self.heads[usize::from(at.literal)] = link.next,
         }
-        let link = self.links[at.place - 1];
-        if at.before > 0 && at.before <= self.links.len() {
-            self.links[at.before - 1].next = link.next;
-        } else {
-            self.heads[at.literal as usize] = link.next;
+        let next = self.heads[usize::from(literal)].replace(place);
+        if let Some(moved) = self.links.get_mut(place) {
+            *moved = Link {
+                literal,
+                next,
+                ..link
+            };
         }
-        let next = self.heads[literal as usize];
-        self.links[at.place - 1] = Link {
-            clause: link.clause,
-            literal,
-            next,
-        };
-        self.heads[literal as usize] = at.place;
     }
 }

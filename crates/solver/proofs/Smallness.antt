@@ -1,5 +1,5 @@
 -- The laws of answers and the smallest questions. Assumes nothing.
-use Rattle.std.proofs.Common.{◌≡◌, ℕ, Bool, true, false, cond, ◌&&◌, ◌||◌, T, ◌↔◌, List, [], ◌∷◌, Some, None, Option, sym, refl, ap, ◌∙◌, subst, MatchOption}
+use Rattle.std.proofs.Common.{◌≡◌, ℕ, Bool, true, false, ◌&&◌, ◌||◌, T, ◌↔◌, List, [], ◌∷◌, Some, None, Option, sym, refl, subst, MatchOption}
 use mathlib.Core.Bool.{beq}
 use Rattle.std.proofs.lemmas.Bool.{true≢false}
 use Rattle.system.specs.Literals.{Valuation}
@@ -7,6 +7,7 @@ use Rattle.solver.specs.Answers.{model, Satisfied, Answered, is_yes, fits, Alone
 use Rattle.solver.specs.Laws.{YesExactly, SmallestQuestions}
 use Rattle.solver.specs.declared.answer.Answer.{Answer}
 use Rattle.solver.specs.declared.answer.Answer.TheVariants.{Yes, No}
+use Rattle.solver.specs.declared.capacity.Capacity.{Capacity}
 
 pub yes_exactly : YesExactly
 yes_exactly held assumed (Yes low high) answered = ((λ e. (model low high, answered)), λ s. refl)
@@ -42,12 +43,7 @@ smallest_questions =
     }
 
 -- the same where just the one clause is held, if it fits
-pub empty_alone : (clause_room literal_room : ℕ) (o : Option Answer) → AloneAnswered [] clause_room literal_room o → o ≡ cond (fits [] [] clause_room literal_room) (Some No) None
-empty_alone clause_room literal_room None e = sym (ap (λ b. cond b (Some No) None) e)
-empty_alone clause_room literal_room (Some r) (e, answered) =
-    ap Some ((smallest_questions.empty [] r).0 answered) ∙ sym (ap (λ b. cond b (Some No) None) e)
-
-pub either_alone : (clause_room literal_room : ℕ) (o : Option Answer) → AloneAnswered (0 ∷ 1 ∷ []) clause_room literal_room o
-    → MatchOption o (fits [] (0 ∷ 1 ∷ []) clause_room literal_room ≡ false) (λ r. is_yes r ≡ true)
-either_alone clause_room literal_room None e = e
-either_alone clause_room literal_room (Some r) (e, answered) = (smallest_questions.either r).0 answered
+pub either_alone : (capacity : Capacity) (o : Option Answer) → AloneAnswered (0 ∷ 1 ∷ []) capacity o
+    → MatchOption o (fits [] (0 ∷ 1 ∷ []) capacity ≡ false) (λ r. is_yes r ≡ true)
+either_alone capacity None e = e
+either_alone capacity (Some r) (e, answered) = (smallest_questions.either r).0 answered

@@ -3,6 +3,7 @@ use Rattle.std.specs.Prelude.{◌≡◌, ℕ, ◌+◌, ◌-◌, Bool, true, fals
 use Rattle.system.specs.Literals.{Valuation, bit, literal, clauses, size}
 use Rattle.solver.specs.declared.answer.Answer.{Answer}
 use Rattle.solver.specs.declared.answer.Answer.TheVariants.{Yes, No}
+use Rattle.solver.specs.declared.capacity.Capacity.{Capacity}
 
 -- a list of literals is true where each of them is
 abbrev pub literals : Valuation → List ℕ → Bool
@@ -27,10 +28,10 @@ is_yes (Yes low high) = true
 is_yes No = false
 
 -- whether a clause can be added within both capacities
-abbrev pub fits : List (List ℕ) → List ℕ → ℕ → ℕ → Bool
-fits held c clause_room literal_room = nat_lt (length held) clause_room && nat_le (size held + length c) literal_room
+abbrev pub fits : List (List ℕ) → List ℕ → Capacity → Bool
+fits held c capacity = nat_lt (length held) capacity.clauses && nat_le (size held + length c) capacity.literals
 
 -- the answer where just one clause is held, or none where it does not fit
-abbrev pub AloneAnswered : List ℕ → ℕ → ℕ → Option Answer → Type 0
-AloneAnswered c clause_room literal_room None = fits [] c clause_room literal_room ≡ false
-AloneAnswered c clause_room literal_room (Some answer) = (fits [] c clause_room literal_room ≡ true) × Answered (c ∷ []) [] answer
+abbrev pub AloneAnswered : List ℕ → Capacity → Option Answer → Type 0
+AloneAnswered c capacity None = fits [] c capacity ≡ false
+AloneAnswered c capacity (Some answer) = (fits [] c capacity ≡ true) × Answered (c ∷ []) [] answer

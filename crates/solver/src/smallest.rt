@@ -15,7 +15,7 @@ pub fn laws()
 
 // What a solver answers while it holds nothing, assuming nothing and assuming a literal and its negation; and while it
 // holds just the empty clause, and just a clause of a literal and its negation, where these fit.
-#[derive(Clone, Copy)]
+#[derive(Clone, Copy, PartialEq, Eq, Debug)]
 pub struct Smallest {
     pub nothing: Answer,
     pub opposed: Answer,
@@ -25,15 +25,12 @@ pub struct Smallest {
 
 // The answer where just the clause is held, or none where it does not fit. Nothing is held afterwards.
 fn asked_alone<S: Solver>(solver: &mut S, clause: &[u8]) -> Option<Answer>
-    ensures answer { AloneAnswered clause.now (S.Solver.clause_room solver.old) (S.Solver.literal_room solver.old) result }
+    ensures answer { AloneAnswered clause.now (S.Solver.capacity solver.old) result }
     ensures held { S.Solver.held solver.new ≡ [] }
-    ensures clause_room { S.Solver.clause_room solver.new ≡ S.Solver.clause_room solver.old }
-    ensures literal_room { S.Solver.literal_room solver.new ≡ S.Solver.literal_room solver.old }
+    ensures capacity { S.Solver.capacity solver.new ≡ S.Solver.capacity solver.old }
 {
     solver.wipe();
-    if solver.add(clause).is_err() {
-        return None;
-    }
+    solver.add(clause).ok()?;
     let answer = solver.query(&[]);
     solver.wipe();
     Some(answer)
@@ -43,11 +40,10 @@ fn asked_alone<S: Solver>(solver: &mut S, clause: &[u8]) -> Option<Answer>
 pub fn smallest_questions<S: Solver>(solver: &mut S) -> Smallest
     ensures nothing { is_yes result.nothing ≡ true }
     ensures opposed { result.opposed ≡ No }
-    ensures empty { result.empty ≡ (if fits [] [] (S.Solver.clause_room solver.old) (S.Solver.literal_room solver.old) then Some No else None) }
-    ensures either { MatchOption result.either (fits [] (0 ∷ 1 ∷ []) (S.Solver.clause_room solver.old) (S.Solver.literal_room solver.old) ≡ false) (λ a. is_yes a ≡ true) }
+    ensures empty { result.empty ≡ (if fits [] [] (S.Solver.capacity solver.old) then Some No else None) }
+    ensures either { MatchOption result.either (fits [] (0 ∷ 1 ∷ []) (S.Solver.capacity solver.old) ≡ false) (λ a. is_yes a ≡ true) }
     ensures held { S.Solver.held solver.new ≡ [] }
-    ensures clause_room { S.Solver.clause_room solver.new ≡ S.Solver.clause_room solver.old }
-    ensures literal_room { S.Solver.literal_room solver.new ≡ S.Solver.literal_room solver.old }
+    ensures capacity { S.Solver.capacity solver.new ≡ S.Solver.capacity solver.old }
 {
     solver.wipe();
     let nothing = solver.query(&[]);

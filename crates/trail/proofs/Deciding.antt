@@ -1,14 +1,17 @@
 -- Lists of decisions: what one more does, distinct variables, and the literals that they make true. Assumes nothing.
-use Rattle.std.proofs.Common.{◌≡◌, ℕ, zero, suc, ◌+◌, ◌%◌, ◌<◌, ◌≤◌, Bool, true, false, cond, not, ◌&&◌, ◌||◌, eqb, ◌⊎◌, List, [], ◌∷◌, ◌++◌, length, get_or, take, set, MatchBool, sym, refl, ap, ◌∙◌, subst, ap₂, inl, inr, mod-eq_of_lt, arith}
+use Rattle.std.proofs.Common.{◌≡◌, ℕ, zero, suc, ◌+◌, ◌%◌, ◌<◌, ◌≤◌, Bool, true, false, not, ◌&&◌, ◌||◌, eqb, ◌⊎◌, List, [], ◌∷◌, ◌++◌, length, get_or, take, set, map, fold, MatchBool, sym, refl, ap, ◌∙◌, subst, ap₂, inl, inr, mod-eq_of_lt, arith}
 use mathlib.Core.Bool.{beq, or-false, or_assoc}
-use Rattle.std.proofs.lemmas.List.{take-take, length-take-le, set_split, drop_all}
-use Rattle.std.proofs.lemmas.Bool.{true≢false, cases_Bool, cases_eq, and_parts, and_from, or_cases, or_parts, or_left, or_right, or_from, eq-eqb, ne_eqb, eqb-true, not-true, not_from_false, cond-true, cond-false}
-use Rattle.trail.specs.Decisions.{has, Free, distinct, Spells}
-use Rattle.masks.specs.Masks.{inside, with_value}
+use Rattle.std.proofs.lemmas.List.{length-map, take-take, length-take-le, set_split, drop_all}
+use Rattle.std.proofs.lemmas.Bool.{true≢false, cases_Bool, and_parts, and_from, or_cases, or_parts, or_left, or_right, or_from, eq-eqb, ne_eqb, eqb-true, not-true, not_from_false}
+use Rattle.std.proofs.lemmas.Map.Keys.{IsDistinct-cons}
+use Rattle.std.proofs.lemmas.Map.Steps.{length-le_from_distinct_below}
+use Rattle.std.specs.List.{IsDistinct, AllByRecursion, list_any}
+use Rattle.trail.specs.Decisions.{has, Free, distinct, Spells, literals_of}
+use Rattle.masks.specs.Masks.{inside, none, with_value}
 use Rattle.masks.specs.declared.mask.ClauseMask.{ClauseMask}
 use Rattle.trail.specs.declared.decision.Decision.{Decision}
 use Rattle.masks.specs.Standings.{Unassigned}
-use Rattle.masks.proofs.Sets.{clash, beq_same, beq_true, not_opposite, not_in_variables, with_inside}
+use Rattle.masks.proofs.Sets.{clash, beq_same, beq_true, not_opposite, not_in_variables, with_inside, inside_none}
 
 -- whether a decision gives variable j the value b
 abbrev pub gives : Decision → ℕ → Bool → Bool
@@ -117,73 +120,41 @@ fresh_at (d ∷ ds) (suc k) e q h b =
     ])
     (fresh_at ds k e r.1 (omega arith) b)
 
--- how many of the variables below n no decision is on
-missing : ℕ → List Decision → ℕ
-missing zero ds = 0
-missing (suc n) ds = cond (has ds n true || has ds n false) 0 1 + missing n ds
+-- the variables of the decisions differ, and are below 128
+abbrev variables : List Decision → List ℕ
+variables ds = map (λ d. d.variable) ds
 
-missing_none : (n : ℕ) → missing n [] ≡ n
-unfolding missing
-missing_none zero = refl
-missing_none (suc n) = let h = missing_none n in omega arith
+other_variables : (ds : List Decision) (v : ℕ) → Free ds v → AllByRecursion (λ x. eqb v x ≡ false) (variables ds)
+other_variables [] v f = tt
+other_variables (d ∷ ds) v f = (ne_eqb v d.variable (λ e. free_other d ds v f (sym e)), other_variables ds v (free_tail d ds v f))
 
-named : (d : Decision) (ds : List Decision) (j : ℕ) → (d.variable ≡ j → ⊥) → (has (d ∷ ds) j true || has (d ∷ ds) j false) ≡ (has ds j true || has ds j false)
-named d ds j n = ap₂ ◌||◌ (same true) (same false)
-  where
-    same : (b : Bool) → has (d ∷ ds) j b ≡ has ds j b
-    same b = ap (λ x. (x && beq d.value b) || has ds j b) (ne_eqb d.variable j n)
+variables_distinct : (ds : List Decision) → distinct ds ≡ true → IsDistinct eqb (variables ds)
+unfolding IsDistinct
+variables_distinct [] e = tt
+variables_distinct (d ∷ ds) e = let r = distinct_head d ds e in (other_variables ds d.variable r.0, variables_distinct ds r.1)
 
-named_own : (d : Decision) (ds : List Decision) → (has (d ∷ ds) d.variable true || has (d ∷ ds) d.variable false) ≡ true
-named_own d ds = go d.value refl
-  where
-    go : (b : Bool) → d.value ≡ b → (has (d ∷ ds) d.variable true || has (d ∷ ds) d.variable false) ≡ true
-    go true e = or_left (has (d ∷ ds) d.variable true) (has (d ∷ ds) d.variable false) (or_left (gives d d.variable true) (has ds d.variable true) (subst (λ b. gives d d.variable b ≡ true) e (gives_own d)))
-    go false e = or_right (has (d ∷ ds) d.variable true) (has (d ∷ ds) d.variable false) (or_left (gives d d.variable false) (has ds d.variable false) (subst (λ b. gives d d.variable b ≡ true) e (gives_own d)))
+variables_small : (ds : List Decision) (v : ℕ) → list_any (eqb v) (variables ds) ≡ true → v < 128
+variables_small [] v t = clash false t refl
+variables_small (d ∷ ds) v t =
+    elim (or_cases (eqb v d.variable) (list_any (eqb v) (variables ds)) t)
+    [ inl e ↦ omega (arith, eqb-true v d.variable e, d.small) | inr h ↦ variables_small ds v h ]
 
-missing_past : (n : ℕ) (d : Decision) (ds : List Decision) → n ≤ d.variable → missing n (d ∷ ds) ≡ missing n ds
-unfolding missing
-missing_past zero d ds h = refl
-missing_past (suc n) d ds h = ap₂ (λ x y. cond x 0 1 + y) (named d ds n (λ e. let z : ⊥ = omega arith in z)) (missing_past n d ds (omega arith))
+variables_length : (ds : List Decision) → length (variables ds) ≡ length ds
+variables_length ds = length-map ds (λ (d : Decision). d.variable)
 
-missing_cons : (n : ℕ) (d : Decision) (ds : List Decision) → d.variable < n → Free ds d.variable → missing n (d ∷ ds) + 1 ≡ missing n ds
-unfolding missing
-missing_cons zero d ds h f = absurd (let z : ⊥ = omega arith in z)
-missing_cons (suc n) d ds h f = go (cases_eq d.variable n) (λ k. missing_cons n d ds k f)
-  where
-    go : (d.variable ≡ n) ⊎ (d.variable ≡ n → ⊥) → (d.variable < n → missing n (d ∷ ds) + 1 ≡ missing n ds) → missing (suc n) (d ∷ ds) + 1 ≡ missing (suc n) ds
-    go (inl e) ih =
-        let p = cond-true {A = ℕ} (has (d ∷ ds) n true || has (d ∷ ds) n false) 0 1 (subst (λ v. (has (d ∷ ds) v true || has (d ∷ ds) v false) ≡ true) e (named_own d ds)) in
-        let q = cond-false {A = ℕ} (has ds n true || has ds n false) 0 1 (subst (λ v. (has ds v true || has ds v false) ≡ false) e (both_free ds d.variable f)) in
-        let m = missing_past n d ds (omega arith) in
-        omega arith
-    go (inr k) ih =
-        let p : cond {A = ℕ} (has (d ∷ ds) n true || has (d ∷ ds) n false) 0 1 ≡ cond {A = ℕ} (has ds n true || has ds n false) 0 1 = ap (λ x. cond x 0 1) (named d ds n k) in
-        let m = ih (omega arith) in
-        omega arith
-
-missing_all : (ds : List Decision) → distinct ds ≡ true → missing 128 ds + length ds ≡ 128
-missing_all [] e = let m = missing_none 128 in omega arith
-missing_all (d ∷ ds) e =
-    let r = distinct_head d ds e in
-    let m = missing_cons 128 d ds d.small r.0 in
-    let h = missing_all ds r.1 in
-    omega arith
-
-missing_some : (n : ℕ) (ds : List Decision) (v : ℕ) → v < n → Free ds v → 0 < missing n ds
-unfolding missing
-missing_some zero ds v h f = absurd (let z : ⊥ = omega arith in z)
-missing_some (suc n) ds v h f = go (cases_eq v n) (λ k. missing_some n ds v k f)
-  where
-    go : (v ≡ n) ⊎ (v ≡ n → ⊥) → (v < n → 0 < missing n ds) → 0 < missing (suc n) ds
-    go (inl e) ih = let q = cond-false {A = ℕ} (has ds n true || has ds n false) 0 1 (subst (λ w. (has ds w true || has ds w false) ≡ false) e (both_free ds v f)) in omega arith
-    go (inr k) ih = let m = ih (omega arith) in omega arith
+pub at_most : (ds : List Decision) → distinct ds ≡ true → length ds ≤ 128
+at_most ds e = omega (arith, length-le_from_distinct_below (variables ds) 128 (variables_distinct ds e) (variables_small ds), variables_length ds)
 
 -- there is a place for a decision on a free variable
 pub place : (ds : List Decision) (v : ℕ) → distinct ds ≡ true → v < 128 → Free ds v → length ds < 128
-place ds v e h f = let m = missing_all ds e in let p = missing_some 128 ds v h f in omega arith
-
-pub at_most : (ds : List Decision) → distinct ds ≡ true → length ds ≤ 128
-at_most ds e = let m = missing_all ds e in omega arith
+place ds v e h f =
+    let m = length-le_from_distinct_below (v ∷ variables ds) 128 (IsDistinct-cons eqb v (variables ds) (other_variables ds v f) (variables_distinct ds e)) small in
+    omega (arith, m, variables_length ds)
+  where
+    small : (q : ℕ) → list_any (eqb q) (v ∷ variables ds) ≡ true → q < 128
+    small q t =
+        elim (or_cases (eqb q v) (list_any (eqb q) (variables ds)) t)
+        [ inl k ↦ omega (arith, eqb-true q v k, h) | inr k ↦ variables_small ds q k ]
 
 -- the set of true literals with one more decision
 pub spells_push : (s r : ClauseMask) (ds : List Decision) (d : Decision) → Spells s ds → r ≡ with_value s (d.variable % 128) d.value → Spells r (ds ++ d ∷ [])
@@ -193,17 +164,20 @@ spells_push s r ds d e f j c =
     ∙ ap₂ (λ x v. x || (eqb v j && beq d.value c)) (e j c) (mod-eq_of_lt d.small)
     ∙ sym (has_push ds d j c)
 
-pub spells_none : (ds : List Decision) → ds ≡ [] → (s : ClauseMask) → ((j : ℕ) (b : Bool) → inside s j b ≡ false) → Spells s ds
-spells_none ds e s f j b = f j b ∙ sym (ap (λ xs. has xs j b) e)
+-- what a fold over them collects
+spells_from : (s : ClauseMask) (ds : List Decision) (j : ℕ) (b : Bool) → inside (fold (λ m d. with_value m (d.variable % 128) d.value) s ds) j b ≡ (inside s j b || has ds j b)
+spells_from s [] j b = sym (or-false (inside s j b))
+spells_from s (d ∷ ds) j b =
+    spells_from (with_value s (d.variable % 128) d.value) ds j b
+    ∙ ap (λ x. x || has ds j b) (with_inside s (d.variable % 128) d.value j b ∙ ap (λ v. inside s j b || (eqb v j && beq d.value b)) (mod-eq_of_lt d.small))
+    ∙ or_assoc (inside s j b) (gives d j b) (has ds j b)
 
--- a cut behind the entry n, and another entry in its place
-pub changed : (ds xs : List Decision) (n : ℕ) (d : Decision) → n < length ds → xs ≡ take (n + 1) ds → set xs n d ≡ take n ds ++ d ∷ []
-changed ds xs n d h e =
-    let l : length xs ≡ n + 1 = ap length e ∙ length-take-le (n + 1) ds (omega arith) in
-    let i : n < length xs = omega arith in
-    let j : length xs ≤ suc n = omega arith in
-    let k : n ≤ n + 1 = omega arith in
-    set_split xs n d i ∙ ap₂ (λ p q. p ++ d ∷ q) (ap (take n) e ∙ take-take n (n + 1) ds k) (drop_all (suc n) xs j)
+pub spells_all : (s : ClauseMask) (ds : List Decision) → s ≡ literals_of ds → Spells s ds
+spells_all s ds e j b = ap (λ m. inside m j b) e ∙ spells_from none ds j b ∙ ap (λ x. x || has ds j b) (inside_none j b)
+
+-- a variable that the set of them leaves without a value
+pub free_in : (s : ClauseMask) (ds : List Decision) (v : ℕ) → Spells s ds → Unassigned s v → Free ds v
+free_in s ds v spelled f b = sym (spelled v b) ∙ f b
 
 -- no variable has both values
 pub one_value : (s : ClauseMask) (ds : List Decision) → Spells s ds → distinct ds ≡ true → (j : ℕ) → inside s j true ≡ true → inside s j false ≡ true → ⊥
@@ -214,3 +188,12 @@ pub free_test : (m : ClauseMask) (v : ℕ) (r : Bool) → v < 128 → r ≡ (ins
     → MatchBool (not r) ((v < 128) × Unassigned m v) ((v < 128) × Unassigned m v → ⊥)
 free_test m v true h e = λ p. true≢false (e ∙ ap (λ x. inside m x true || inside m x false) (mod-eq_of_lt h) ∙ or_from (inside m v true) (inside m v false) (p.1 true) (p.1 false))
 free_test m v false h e = (h, not_in_variables m v (ap (λ x. inside m x true || inside m x false) (sym (mod-eq_of_lt h)) ∙ sym e))
+
+-- a cut behind the entry n, and another entry in its place
+pub changed : (ds xs : List Decision) (n : ℕ) (d : Decision) → n < length ds → xs ≡ take (n + 1) ds → set xs n d ≡ take n ds ++ d ∷ []
+changed ds xs n d h e =
+    let l : length xs ≡ n + 1 = ap length e ∙ length-take-le (n + 1) ds (omega arith) in
+    let i : n < length xs = omega arith in
+    let j : length xs ≤ suc n = omega arith in
+    let k : n ≤ n + 1 = omega arith in
+    set_split xs n d i ∙ ap₂ (λ p q. p ++ d ∷ q) (ap (take n) e ∙ take-take n (n + 1) ds k) (drop_all (suc n) xs j)

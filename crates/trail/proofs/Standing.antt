@@ -33,16 +33,6 @@ pub because : (base : List (List ℕ)) (ds : List Decision) (d : Decision) (v : 
 because base ds d v b f p q r h = subst₃ (Reason base ds) (sym p) (sym q) (sym r) h
 
 -- the number that rises
-digit_low : (f : Forcing) → 1 ≤ digit f
-digit_low Assumed = omega arith
-digit_low Chosen = omega arith
-digit_low (Forced m) = omega arith
-
-digit_high : (f : Forcing) → digit f ≤ 2
-digit_high Assumed = omega arith
-digit_high Chosen = omega arith
-digit_high (Forced m) = omega arith
-
 digit_le : (f : Forcing) (x : ℕ) → digit f * x ≤ 2 * x
 digit_le Assumed x = omega arith
 digit_le Chosen x = omega arith

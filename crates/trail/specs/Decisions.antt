@@ -1,7 +1,7 @@
 -- Lists of decisions: which value they give a variable, and which literals they make true.
-use Rattle.std.specs.Prelude.{◌≡◌, ℕ, Bool, true, false, not, ◌&&◌, ◌||◌, List, [], ◌∷◌, ◌==◌}
+use Rattle.std.specs.Prelude.{◌≡◌, ℕ, ◌%◌, Bool, true, false, not, ◌&&◌, ◌||◌, List, [], ◌∷◌, ◌==◌, fold}
 use Rattle.std.specs.Bool.{beq}
-use Rattle.masks.specs.Masks.{inside}
+use Rattle.masks.specs.Masks.{inside, none, with_value}
 use Rattle.masks.specs.declared.mask.ClauseMask.{ClauseMask}
 use Rattle.trail.specs.declared.decision.Decision.{Decision}
 
@@ -18,6 +18,10 @@ Free ds j = (b : Bool) → has ds j b ≡ false
 abbrev pub distinct : List Decision → Bool
 distinct [] = true
 distinct (d ∷ ds) = not (has ds d.variable true || has ds d.variable false) && distinct ds
+
+-- the literals that the decisions make true
+abbrev pub literals_of : List Decision → ClauseMask
+literals_of ds = fold (λ m d. with_value m (d.variable % 128) d.value) none ds
 
 -- the set has the literals that the decisions make true
 abbrev pub Spells : ClauseMask → List Decision → Type 0

@@ -1,34 +1,30 @@
 // What is done to a trail.
 ghost use Rattle.std.specs.Prelude.{◌≡◌, ◌+◌, ◌<◌, ◌≤◌, [], length, IfOk, MatchBool, MatchOption, slice_index_or};
 ghost use Rattle.masks.specs.Standings.{Unassigned};
-ghost use Rattle.trail.specs.Decisions.{Spells};
+ghost use Rattle.trail.specs.Decisions.{literals_of};
 ghost use Rattle.trail.specs.Changes.{Assigned, Changed};
 ghost use Rattle.trail.specs.Entries.{entries};
 
 use crate::decision::{Decision, Forcing};
 use crate::trail::Trail;
-use masks::{ClauseMask, mentions, with_value};
+use masks::{ClauseMask, Literal};
 use std::alloc::{AllocError, Global};
 
 // The literals that the decisions make true.
 fn spelled(decisions: &[Decision]) -> ClauseMask
-    ensures { Spells result decisions.now }
+    ensures { result ≡ literals_of decisions.now }
 {
-    let mut assigned = ClauseMask::NONE;
-    for decision in decisions {
-        assigned = with_value(assigned, decision.variable, decision.value);
-    }
-    assigned
+    decisions.iter().fold(
+        ClauseMask::NONE,
+        |assigned, decision| assigned.with_value(decision.literal()),
+    )
 }
 
 // Whether it is a variable without a value.
 fn is_free(assigned: ClauseMask, variable: u8) -> bool
     ensures { MatchBool result ((variable < 128) × Unassigned assigned variable) ((variable < 128) × Unassigned assigned variable → ⊥) }
 {
-    if variable >= 128 {
-        return false;
-    }
-    !mentions(assigned, variable)
+    variable < 128 && !assigned.mentions(variable)
 }
 
 impl Trail {
@@ -69,50 +65,46 @@ impl Trail {
     pub fn advance(&mut self) -> Option<Decision>
         ensures entries { entries self.new ≡ entries self.old }
         ensures assigned { self.new.assigned ≡ self.old.assigned }
-        ensures found { MatchOption result (length (entries self.old) ≤ self.old.done) (λ d. (d ≡ slice_index_or (entries self.old) self.old.done d) × (self.new.done ≡ self.old.done + 1)) }
+        ensures found { MatchOption result (length (entries self.old) ≤ self.old.done) (λ d. (self.old.done < length (entries self.old)) × (d ≡ slice_index_or (entries self.old) self.old.done d) × (self.new.done ≡ self.old.done + 1)) }
     {
-        if self.done >= self.decisions.len() {
-            return None;
-        }
-        let decision = self.decisions[self.done];
+        let decision = *self.decisions.get(self.done)?;
         self.done += 1;
         Some(decision)
     }
 
     // One more decision, where the variable has no value.
-    pub fn assign(&mut self, variable: u8, value: bool, forcing: Forcing)
-        ensures { Assigned (entries self.old) variable value forcing (entries self.new) }
+    pub fn assign(&mut self, literal: Literal, forcing: Forcing)
+        ensures assigned { Assigned (entries self.old) literal.variable literal.value forcing (entries self.new) }
+        ensures done { self.new.done ≡ self.old.done }
     {
-        if !is_free(self.assigned, variable) {
-            return;
+        if is_free(self.assigned, literal.variable) {
+            self.decisions.push_reserved(Decision {
+                variable: literal.variable,
+                value: literal.value,
+                forcing,
+            });
+            self.assigned = self.assigned.with_value(literal);
         }
-        self.decisions.push_reserved(Decision {
-            variable,
-            value,
-            forcing,
-        });
-        self.assigned = with_value(self.assigned, variable, value);
     }
 
-    // Lets go of all decisions behind the entry and changes that one, where the variable has no value before it.
-    pub fn change(&mut self, at: usize, variable: u8, value: bool, forcing: Forcing)
-        ensures { Changed (entries self.old) at variable value forcing (entries self.new) }
+    // Lets go of all decisions behind the entry and lends that one to change it, where the variable has no value before it.
+    pub fn change(&mut self, at: usize, literal: Literal, forcing: Forcing)
+        ensures { Changed (entries self.old) at literal.variable literal.value forcing (entries self.new) }
     {
         if at >= self.decisions.len() {
             return;
         }
-        let before = spelled(&self.decisions.as_slice()[0..at]);
-        if !is_free(before, variable) {
-            return;
+        let before = spelled(&self.decisions[..at]);
+        if is_free(before, literal.variable) {
+            self.decisions.truncate(at + 1);
+            let entry = &mut self.decisions[at];
+            *entry = Decision {
+                variable: literal.variable,
+                value: literal.value,
+                forcing,
+            };
+            self.assigned = before.with_value(literal);
+            self.done = self.done.min(at);
         }
-        self.decisions.truncate(at + 1);
-        let entry = &mut self.decisions[at];
-        *entry = Decision {
-            variable,
-            value,
-            forcing,
-        };
-        self.assigned = with_value(before, variable, value);
-        self.done = self.done.min(at);
     }
 }

@@ -1,85 +1,80 @@
-use Rattle.std.proofs.Common.{◌≡◌, ℕ, ◌+◌, ◌-◌, ◌<◌, Bool, false, not, ◌&&◌, ◌||◌, eqb, length, get_or, take, Some, sym, ap, ◌∙◌, subst, arith}
-use Rattle.std.proofs.lemmas.List.{take_all, take-take, get_or_default}
-use Rattle.masks.specs.Masks.{inside}
-use Rattle.analysis.specs.Conflicts.{Analyzed, reason_of}
+use Rattle.std.proofs.Common.{◌≡◌, ◌<◌, [], length, take, not, sym, ap, ◌∙◌, subst, arith}
+use Rattle.std.proofs.lemmas.List.{take-take, get_or_default, nil_from_length}
 use Rattle.trail.specs.Decisions.{distinct, Free}
-use Rattle.trail.specs.Reasons.{Refuted, Sound, Forces}
+use Rattle.trail.specs.Reasons.{Refuted, Forces}
 use Rattle.trail.specs.declared.decision.Decision.{Decision}
 use Rattle.trail.specs.declared.decision.Forcing.TheVariants.{Chosen}
-use Rattle.trail.proofs.Deciding.{fresh_at, free_take}
+use Rattle.trail.proofs.Deciding.{free_take}
 use Rattle.masks.proofs.Sets.{unmentioned}
-use Rattle.analysis.proofs.Resolving.{passed, reduce_refuted, reduce_implied, empty_hopeless}
+use Rattle.analysis.proofs.Resolving.{fresh, passed, reduce_refuted, reduce_implied, empty_hopeless}
+use Rattle.analysis.proofs.Walking.{to_come, turn}
 use Rattle.analysis.proofs.analyzing.analyze.Goals as goal
-
-pub asserted-requires : goal.asserted-requires
-asserted-requires c = record { within = omega arith; once = ap distinct c.decisions-decisions.ensures ∙ c.args.trail.now.once }
-
-pub loop-at-init : goal.loop-at-init
-loop-at-init c =
-    (omega arith, λ base refuted sound implied. (implied, subst (Refuted c.args.conflict) (sym (take_all (length c.decisions-decisions.result.now) c.decisions-decisions.result.now (omega arith))) refuted))
 
 pub loop-at-preserved : goal.loop-at-preserved
 loop-at-preserved c =
     let ds = c.decisions-decisions.result.now in
-    let d = c.index-decisions-at.result in
-    let k = c.loop-at.at - 1 in
-    let h : k < length ds = omega (arith, c.loop-at.invariant.0) in
-    let e : c.loop-at.at ≡ k + 1 = omega arith in
+    let d = c.in-Some.decision.now in
+    let k = c.in-Some.at in
+    let clause = c.loop-at.clause in
+    let known = c.loop-at.invariant in
+    let steps = c.in-Some.ensures.steps in
     let once = ap distinct c.decisions-decisions.ensures ∙ c.args.trail.now.once in
-    let f = unmentioned c.loop-at.clause d.variable c.mentions.result d.small c.mentions.ensures c.if-mentions.false in (
-      omega (arith, c.loop-at.invariant.0),
-      λ base refutes sound implied.
-          let r = c.loop-at.invariant.1 base refutes sound implied in
-          (r.0, passed ds k d h once c.loop-at.clause (subst (λ (y : Decision). (x : Bool) → inside c.loop-at.clause y.variable x ≡ false) c.index-decisions-at.is f) (subst (λ n. Refuted c.loop-at.clause (take n ds)) e r.1)),
-    )
+    let t = turn ds c.loop-at.at-iterator c.next.new.self k d known.back steps.0 steps.1.0 steps.1.1 in
+    let f = unmentioned clause d.variable c.mentions.result d.small c.mentions.ensures c.if-mentions.false in record {
+      back = t.goes_on;
+      learned = λ base refutes sound implied.
+          let r = known.learned base refutes sound implied in
+          (r.0, subst (Refuted clause) (sym t.before) (passed ds k d t.within t.is once clause f (subst (Refuted clause) t.here r.1)));
+    }
 
 pub loop-at-preserved-then-mentions : goal.loop-at-preserved-then-mentions
 loop-at-preserved-then-mentions c =
     let ds = c.decisions-decisions.result.now in
-    let d = c.index-decisions-at.result in
-    let k = c.loop-at.at - 1 in
-    let h : k < length ds = omega (arith, c.loop-at.invariant.0) in
-    let e : c.loop-at.at ≡ k + 1 = omega arith in
+    let d = c.in-Some.decision.now in
+    let k = c.in-Some.at in
+    let clause = c.loop-at.clause in
+    let known = c.loop-at.invariant in
+    let steps = c.in-Some.ensures.steps in
     let once = ap distinct c.decisions-decisions.ensures ∙ c.args.trail.now.once in
-    let f = subst (λ (y : Decision). (j : ℕ) (b : Bool) → inside c.reduced-clause.result j b ≡ ((inside c.loop-at.clause j b || inside (reason_of y.forcing) j b) && not (eqb j y.variable))) c.index-decisions-at.is c.reduced-clause.ensures in
-    let n : (get_or ds k d).forcing ≡ Chosen → ⊥ = λ q. c.in_default.ensures (λ x. ap (λ (y : Decision). y.forcing) (get_or_default ds k x d h) ∙ q) in (
-      omega (arith, c.loop-at.invariant.0),
-      λ base refutes sound implied.
-          let r = c.loop-at.invariant.1 base refutes sound implied in
-          let refuted = subst (λ n. Refuted c.loop-at.clause (take n ds)) e r.1 in (
-            reduce_implied base ds k d c.loop-at.clause c.reduced-clause.result h once f sound n refuted r.0,
-            reduce_refuted base ds k d c.loop-at.clause c.reduced-clause.result h once f sound refuted,
-          ),
-    )
+    let t = turn ds c.loop-at.at-iterator c.next.new.self k d known.back steps.0 steps.1.0 steps.1.1 in
+    let f = c.reduced-clause.ensures in
+    let n : d.forcing ≡ Chosen → ⊥ = λ q. c.in_default.ensures (λ e. ap (λ (x : Decision). x.forcing) (sym (t.is ∙ get_or_default ds k d e t.within)) ∙ q) in record {
+      back = t.goes_on;
+      learned = λ base refutes sound implied.
+          let r = known.learned base refutes sound implied in
+          let refuted = subst (Refuted clause) t.here r.1 in (
+            reduce_implied base ds k d t.within t.is clause c.reduced-clause.result once f sound n refuted r.0,
+            subst (Refuted c.reduced-clause.result) (sym t.before) (reduce_refuted base ds k d t.within t.is clause c.reduced-clause.result once f sound refuted),
+          );
+    }
 
-pub returns-in-Some : goal.returns-in-Some
-returns-in-Some c =
+pub returns-in-Some-asserted : goal.returns-in-Some-asserted
+returns-in-Some-asserted c =
     let ds = c.decisions-decisions.result.now in
-    let d = c.index-decisions-at.result in
-    let k = c.loop-at.at - 1 in
-    let h : k < length ds = omega (arith, c.loop-at.invariant.0) in
-    let e : c.loop-at.at ≡ k + 1 = omega arith in
+    let d = c.in-Some.decision.now in
+    let k = c.in-Some.at in
+    let to = c.in-Some-asserted.to in
+    let clause = c.loop-at.clause in
+    let known = c.loop-at.invariant in
+    let steps = c.in-Some.ensures.steps in
     let once = ap distinct c.decisions-decisions.ensures ∙ c.args.trail.now.once in
-    let found = c.in-Some.ensures in
-    let l : c.in-Some.to < length ds = omega (arith, found.0) in
-    let free : Free (take c.in-Some.to ds) d.variable =
-    subst (λ (y : Decision). Free (take c.in-Some.to ds) y.variable) (sym c.index-decisions-at.is)
-    (subst (λ xs. Free xs (get_or ds k d).variable) (take-take c.in-Some.to k ds found.0) (free_take (take k ds) c.in-Some.to (get_or ds k d).variable (fresh_at ds k d once h))) in
-    subst (λ xs. Analyzed xs c.args.conflict (Some (record { to = c.in-Some.to; variable = d.variable; value = not d.value; clause = c.loop-at.clause }))) c.decisions-decisions.ensures (
+    let t = turn ds c.loop-at.at-iterator c.next.new.self k d known.back steps.0 steps.1.0 steps.1.1 in
+    let found = c.in-Some-asserted.ensures in
+    let l : to < length ds = omega (arith, found.0, t.within) in
+    let free : Free (take to ds) d.variable = subst (λ xs. Free xs d.variable) (take-take to k ds found.0) (free_take (take k ds) to d.variable (fresh ds k d t.within t.is once)) in
+    rw (← c.decisions-decisions.ensures) (
       l,
       d.small,
       free,
       found.1,
       λ base refutes sound implied.
-          let r = c.loop-at.invariant.1 base refutes sound implied in
-          let refuted = subst (λ n. Refuted c.loop-at.clause (take n ds)) e r.1 in
-          (r.0, subst (λ (y : Decision). Forces c.loop-at.clause (take c.in-Some.to ds) y.variable (not y.value)) (sym c.index-decisions-at.is) (found.2 d refuted)),
+          let r = known.learned base refutes sound implied in
+          (r.0, subst (λ (x : Decision). Forces clause (take to ds) x.variable (not x.value)) (sym t.is) (found.2 d (subst (Refuted clause) t.here r.1))),
     )
 
 pub returns : goal.returns
-returns c base refutes sound implied =
-    let ds = c.decisions-decisions.result.now in
-    let e = c.decisions-decisions.ensures in
-    let r = c.loop-at.invariant.1 base (subst (Refuted c.args.conflict) (sym e) refutes) (subst (Sound base) (sym e) sound) implied in
-    let z : c.loop-at.at ≡ 0 = omega arith in
-    empty_hopeless base c.loop-at.clause (subst (λ n. Refuted c.loop-at.clause (take n ds)) z r.1) r.0
+returns c =
+    rw (← c.decisions-decisions.ensures) (λ base refutes sound implied.
+    let r = c.loop-at.invariant.learned base refutes sound implied in
+    let z : to_come c.loop-at.at-iterator ≡ [] = nil_from_length _ c.in-None.ensures.steps.1.0 in
+    empty_hopeless base c.loop-at.clause (subst (Refuted c.loop-at.clause) z r.1) r.0)

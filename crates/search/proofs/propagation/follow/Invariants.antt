@@ -1,4 +1,4 @@
-use Rattle.std.proofs.Common.{ℕ, List}
+use Rattle.std.proofs.Common.{◌≡◌, ℕ, List}
 use Rattle.masks.specs.Questions.{Each}
 use Rattle.trail.specs.Entries.{entries}
 use Rattle.trail.specs.Reasons.{Sound}
@@ -7,5 +7,8 @@ use Rattle.search.proofs.propagation.follow.Given as goal
 
 abbrev pub invariant-loop-turn : goal.invariant-loop-turn
 invariant-loop-turn l =
-    Extends (entries l.initial.trail) (entries l.trail)
-    × ((base : List (List ℕ)) → Each base l.masks → Sound base (entries l.initial.trail) → Sound base (entries l.trail))
+    record {
+      more : Extends (entries l.initial.trail) (entries l.trail);
+      sound : (base : List (List ℕ)) → Each base l.masks → Sound base (entries l.initial.trail) → Sound base (entries l.trail);
+      done : l.trail.done ≡ l.initial.trail.done;
+    }

@@ -1,5 +1,5 @@
 use Rattle.trail.proofs.Deciding.{free_test}
 use Rattle.trail.proofs.trailing.is_free.Goals as goal
 
-pub returns : goal.returns
-returns c = free_test c.args.assigned c.args.variable c.mentions.result c.if-variable-ge128.false c.mentions.ensures
+pub returns-then-variable-lt128 : goal.returns-then-variable-lt128
+returns-then-variable-lt128 c = free_test c.args.assigned c.args.variable c.mentions.result c.if-variable-lt128.true c.mentions.ensures

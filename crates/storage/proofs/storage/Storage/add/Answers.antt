@@ -1,39 +1,42 @@
-use Rattle.std.proofs.Common.{◌≡◌, ◌+◌, true, [], ◌∷◌, ◌++◌, map, length, is_ok, vec_items, vec_len, sym, refl, ap, ◌∙◌, ap₂, arith}
+use Rattle.std.proofs.Common.{◌≡◌, true, [], ◌∷◌, ◌++◌, map, length, is_ok, sum, vec_items, sym, ap, ◌∙◌, ap₂, arith}
 use Rattle.std.proofs.lemmas.List.{map_push}
+use Rattle.std.proofs.lemmas.List.Sums.{sum_by_push}
+use Rattle.std.proofs.lemmas.Grind.{common_steps}
 use Rattle.std.proofs.lemmas.Bool.{cond-true}
+use Rattle.solver.specs.Answers.{fits}
 use Rattle.masks.specs.Masks.{mask_of}
-use Rattle.storage.specs.Parts.{total}
-use Rattle.storage.proofs.Pieces.{fails_first, fails_second, fits_both, grown, total_push}
+use Rattle.storage.specs.Stored.{Stored}
+use Rattle.storage.proofs.Pieces.{no_room, held_size, held_more}
 use Rattle.storage.proofs.storage.Storage.add.Goals as goal
 
-pub returns-then-len-self : goal.returns-then-len-self
-returns-then-len-self c = record { test = sym (fails_first c.args.self.now c.args.clause.now (omega arith)); held = refl; places = refl; room = refl }
-
-pub returns-then-clause-self : goal.returns-then-clause-self
-returns-then-clause-self c = record { test = sym (fails_second c.args.self.now c.args.clause.now (omega arith)); held = refl; places = refl; room = refl }
+pub returns-then-clause-self-clause-test : goal.returns-then-clause-self-clause-test
+returns-then-clause-self-clause-test c =
+    sym (no_room c.self.inside c.self.invariant c.args.clause.now (omega arith)) ∙ ap (λ (v : Stored). fits v.held c.args.clause.now v.capacity) c.self.view_is
 
 pub invariant_of-self : goal.invariant_of-self
 invariant_of-self c =
     let ok : is_ok c.extend_from_slice.result ≡ true = c.extend_from_slice.ensures.succeeds (omega arith) in
-    let l : vec_len c.extend_from_slice.new.self ≡ vec_len c.args.self.now.literals + length c.args.clause.now = c.extend_from_slice.ensures.len ∙ cond-true _ _ _ ok in
-    let w = c.args.self.now.whole in
-    let q = c.args.self.now.paired in
-    let t : total (vec_items c.push_reserved.new.self) ≡ total (vec_items c.args.self.now.lengths) + length c.args.clause.now = ap total c.push_reserved.ensures.items ∙ total_push _ _ in
-    let g = grown c.args.self.now c.args.clause.now _ _ c.push_reserved.ensures.items (c.extend_from_slice.ensures.items ∙ cond-true _ _ _ ok) in
+    let items = c.extend_from_slice.ensures.items ∙ cond-true _ _ _ ok in
+    let len = c.extend_from_slice.ensures.len ∙ cond-true _ _ _ ok in
+    let held = held_more c.self.inside c.self.invariant c.args.clause.now _ _ c.push_reserved.ensures.items items in
+    let w = c.self.invariant.whole in
+    let total = ap sum c.push_reserved.ensures.items ∙ sum_by_push (λ x. x) (vec_items c.self.inside.lengths) (length c.args.clause.now) in
     record {
       whole = omega arith;
       paired = omega arith;
-      masked = c.push_reserved-2.ensures.items ∙ ap₂ (λ ms m. ms ++ m ∷ []) c.args.self.now.masked c.mask_of-mask.ensures ∙ sym (map_push mask_of _ _) ∙ ap (map mask_of) (sym g);
-      within = (omega arith, omega arith);
-      reserved = (omega arith, omega arith, omega arith);
+      masked = c.push_reserved-2.ensures.items ∙ ap₂ (λ ms m. ms ++ m ∷ []) c.self.invariant.masked c.from-mask.ensures ∙ sym (map_push mask_of _ _) ∙ ap (map mask_of) (sym held);
+      clauses_within = omega arith;
+      literals_within = omega arith;
+      masks_reserved = omega arith;
+      lengths_reserved = omega arith;
+      literals_reserved = omega arith;
     }
 
-pub returns : goal.returns
-returns c =
+pub returns-clause-test : goal.returns-clause-test
+returns-clause-test c = grind (arith, common_steps, held_size c.self.inside c.self.invariant)
+
+pub returns-clause-held : goal.returns-clause-held
+returns-clause-held c =
     let ok : is_ok c.extend_from_slice.result ≡ true = c.extend_from_slice.ensures.succeeds (omega arith) in
-    record {
-      test = sym (fits_both c.args.self.now c.args.clause.now (omega arith) (omega arith));
-      held = grown c.args.self.now c.args.clause.now _ _ c.push_reserved.ensures.items (c.extend_from_slice.ensures.items ∙ cond-true _ _ _ ok);
-      places = refl;
-      room = refl;
-    }
+    held_more c.self.inside c.self.invariant c.args.clause.now _ _ c.push_reserved.ensures.items (c.extend_from_slice.ensures.items ∙ cond-true _ _ _ ok)
+    ∙ ap (λ (v : Stored). v.held ++ c.args.clause.now ∷ []) c.self.view_is

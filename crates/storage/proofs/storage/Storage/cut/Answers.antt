@@ -1,37 +1,36 @@
-use Rattle.std.proofs.Common.{◌≡◌, ℕ, ◌-◌, ◌≤◌, min, List, length, take, vec_len, sym, refl, ap, ◌∙◌, inl, inr, arith}
-use Rattle.std.proofs.lemmas.List.{take_all, take-take}
-use Rattle.std.proofs.lemmas.Bool.{cases_lt}
-use Rattle.storage.specs.Storages.{held_by}
-use Rattle.storage.proofs.Pieces.{held_count}
+use Rattle.std.proofs.Common.{◌≡◌, map, take, sum, sym, ap, ◌∙◌, arith}
+use Rattle.std.proofs.lemmas.List.{take-map}
+use Rattle.std.proofs.lemmas.Iterator.{YieldsList-from_slice}
+use Rattle.std.proofs.lemmas.Iterator.Consumers.{fits_from_yields_list, sum_from_yields_List}
+use Rattle.masks.specs.Masks.{mask_of}
+use Rattle.storage.specs.Stored.{Stored}
+use Rattle.storage.proofs.Pieces.{sum_front, held_cut}
 use Rattle.storage.proofs.storage.Storage.cut.Goals as goal
 
-pub loop-self-init : goal.loop-self-init
-loop-self-init c = let e = held_count c.args.self.now in (sym (take_all _ _ (omega arith)), omega arith, omega arith, refl, refl)
+pub sum-left-requires-clause-fits : goal.sum-left-requires-clause-fits
+sum-left-requires-clause-fits c =
+    let w = c.self.invariant.whole in
+    let b = sum_front _ _ _ c.truncate-2.ensures.items in
+    fits_from_yields_list c.iter.result _ (YieldsList-from_slice c.truncate-2.new.self.items (cc)) (omega arith)
 
-pub loop-self-preserved : goal.loop-self-preserved
-loop-self-preserved c =
-    let i = c.loop-self.invariant in
-    let n = vec_len c.loop-self.self.masks in
-    let h : n - 1 ≤ n = omega arith in (
-      c.drop_last.ensures.held ∙ ap (take (n - 1)) i.0 ∙ take-take (n - 1) n (held_by c.args.self.now) h ∙ ap (λ k. take k (held_by c.args.self.now)) (sym c.drop_last.ensures.len),
-      omega arith,
-      omega arith,
-      c.drop_last.ensures.places ∙ i.3,
-      c.drop_last.ensures.room ∙ i.4,
-    )
-
--- as many as there are, or as are asked for
-taken : (xs : List (List ℕ)) (n k : ℕ) → n ≤ k → min k (length xs) ≤ n → n ≤ length xs → take n xs ≡ take k xs
-taken xs n k h l m =
-    elim (cases_lt k (length xs))
-    [ inl p ↦ ap (λ j. take j xs) (let e : n ≡ k = omega arith in e) | inr q ↦ take_all n xs (omega arith) ∙ sym (take_all k xs q) ]
-
-pub returns : goal.returns
-returns c =
-    let i = c.loop-self.invariant in
-    let e = held_count c.args.self.now in
+pub invariant_of-self : goal.invariant_of-self
+invariant_of-self c =
+    let w = c.self.invariant.whole in
+    let b = sum_front _ _ _ c.truncate-2.ensures.items in
+    let left : c.sum-left.result ≡ sum c.truncate-2.new.self.items = sum_from_yields_List c.iter.result _ c.sum-left.ensures.ran (YieldsList-from_slice c.truncate-2.new.self.items (cc)) in
+    let held = held_cut c.self.inside c.self.invariant _ _ _ _ c.truncate-2.ensures.items left c.truncate-3.ensures.items in
     record {
-      held = i.0 ∙ taken (held_by c.args.self.now) (vec_len c.loop-self.self.masks) c.args.count (omega arith) (omega arith) (omega arith);
-      places = i.3;
-      room = i.4;
+      whole = omega arith;
+      paired = omega arith;
+      masked = c.truncate.ensures.items ∙ ap (take _) c.self.invariant.masked ∙ take-map mask_of _ _ ∙ ap (map mask_of) (sym held);
+      clauses_within = omega arith;
+      literals_within = omega arith;
+      masks_reserved = omega arith;
+      lengths_reserved = omega arith;
+      literals_reserved = omega arith;
     }
+
+pub returns-clause-held : goal.returns-clause-held
+returns-clause-held c =
+    let left : c.sum-left.result ≡ sum c.truncate-2.new.self.items = sum_from_yields_List c.iter.result _ c.sum-left.ensures.ran (YieldsList-from_slice c.truncate-2.new.self.items (cc)) in
+    held_cut c.self.inside c.self.invariant _ _ _ _ c.truncate-2.ensures.items left c.truncate-3.ensures.items ∙ ap (λ (v : Stored). take c.args.count v.held) c.self.view_is

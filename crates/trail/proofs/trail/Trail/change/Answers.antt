@@ -1,38 +1,34 @@
-use Rattle.std.proofs.Common.{◌<◌, length, take, sym, refl, ap, ◌∙◌, ap₂, arith}
-use native.Mathlib.Nat.{sub-zero}
-use Rattle.trail.specs.Decisions.{has, Spells, distinct}
+use Rattle.std.proofs.Common.{◌<◌, length, take, sym, refl, ap, ◌∙◌, arith}
+use Rattle.trail.specs.Decisions.{has, literals_of, Spells, distinct}
 use Rattle.trail.specs.Entries.{entries}
-use Rattle.trail.proofs.Deciding.{changed, spells_push, distinct_push, distinct_take}
+use Rattle.trail.proofs.Deciding.{changed, spells_all, free_in, spells_push, distinct_push, distinct_take}
 use Rattle.trail.proofs.trail.Trail.change.Goals as goal
-
-pub returns-then-not-is_free : goal.returns-then-not-is_free
-returns-then-not-is_free c =
-    let kept : Spells c.spelled-before.result (take c.args.at (entries c.args.self.now)) =
-    λ j b. c.spelled-before.ensures j b ∙ ap₂ (λ n xs. has (take n xs) j b) (sub-zero c.args.at) c.as_slice.ensures.value in
-    record { taken = λ w h f. absurd (c.if-not-is_free.ensures (h, λ b. kept c.args.variable b ∙ f b)); left = λ n. refl }
 
 pub invariant_of-self : goal.invariant_of-self
 invariant_of-self c =
     let ds = entries c.args.self.now in
-    let free = c.if-not-is_free.ensures in
+    let free = c.if-is_free.ensures in
     let w : c.args.at < length ds = omega (arith, c.if-at-len.false, c.len.ensures, c.args.self.now.decisions.ok.0) in
-    let kept : Spells c.spelled-before.result (take c.args.at ds) =
-    λ j b. c.spelled-before.ensures j b ∙ ap₂ (λ n xs. has (take n xs) j b) (sub-zero c.args.at) c.as_slice.ensures.value in
+    let kept : Spells c.spelled-before.result (take c.args.at ds) = spells_all _ _ (c.spelled-before.ensures ∙ ap (λ xs. literals_of (take c.args.at xs)) c.deref.ensures.value) in
     let is = changed ds _ c.args.at _ w c.truncate.ensures.items in
     record {
       spelled = λ j b. spells_push c.spelled-before.result c.with_value-self.result (take c.args.at ds) _ kept c.with_value-self.ensures j b ∙ ap (λ xs. has xs j b) (sym is);
-      once = ap distinct is ∙ distinct_push (take c.args.at ds) _ (distinct_take ds c.args.at c.args.self.now.once) (λ b. sym (kept c.args.variable b) ∙ free.1 b);
+      once = ap distinct is ∙ distinct_push (take c.args.at ds) _ (distinct_take ds c.args.at c.args.self.now.once) (free_in _ _ _ kept free.1);
       space = omega (arith, c.args.self.now.space, c.truncate.ensures.capacity);
     }
 
-pub returns : goal.returns
-returns c =
+pub returns-then-is_free : goal.returns-then-is_free
+returns-then-is_free c =
     let ds = entries c.args.self.now in
-    let free = c.if-not-is_free.ensures in
+    let free = c.if-is_free.ensures in
     let w : c.args.at < length ds = omega (arith, c.if-at-len.false, c.len.ensures, c.args.self.now.decisions.ok.0) in
-    let kept : Spells c.spelled-before.result (take c.args.at ds) =
-    λ j b. c.spelled-before.ensures j b ∙ ap₂ (λ n xs. has (take n xs) j b) (sub-zero c.args.at) c.as_slice.ensures.value in
+    let kept : Spells c.spelled-before.result (take c.args.at ds) = spells_all _ _ (c.spelled-before.ensures ∙ ap (λ xs. literals_of (take c.args.at xs)) c.deref.ensures.value) in
     record {
       taken = λ l h f. record { made = _; variable = refl; value = refl; forcing = refl; is = changed ds _ c.args.at _ w c.truncate.ensures.items };
-      left = λ n. absurd (n (w, free.0, λ b. sym (kept c.args.variable b) ∙ free.1 b));
+      left = λ n. absurd (n (w, free.0, free_in _ _ _ kept free.1));
     }
+
+pub returns-else-is_free : goal.returns-else-is_free
+returns-else-is_free c =
+    let kept : Spells c.spelled-before.result (take c.args.at (entries c.args.self.now)) = spells_all _ _ (c.spelled-before.ensures ∙ ap (λ xs. literals_of (take c.args.at xs)) c.deref.ensures.value) in
+    record { taken = λ l h f. absurd (c.if-is_free.ensures (h, λ b. kept c.args.literal.variable b ∙ f b)); left = λ n. refl }

@@ -1,0 +1,40 @@
+ghost use Rattle.masks.specs.Questions.{Among, Within, Checked};
+ghost use Rattle.masks.specs.declared.mask.ClauseMask.{ClauseMask};
+
+use crate::mask::ClauseMask;
+
+// What is asked: whether the held clauses, by their sets of literals, and the assumed literals can all be true.
+#[derive(Clone, Copy)]
+pub struct Question<'a> {
+    pub masks: &'a [ClauseMask],
+    pub assumed: &'a [u8],
+}
+
+impl<'a> Question<'a> {
+    // The variables of the clauses and of the assumed literals.
+    pub fn variables(self) -> u128
+        ensures { (m : ClauseMask) → Among self.entry.masks.now self.entry.assumed.now m → Within result m }
+    {
+        // stays two loops: a fold over the chain of both has a longer proof
+        let mut found = 0u128;
+        for mask in self.masks {
+            found |= mask.variables();
+        }
+        for literal in self.assumed {
+            found |= ClauseMask::NONE.with_literal(*literal).variables();
+        }
+        found
+    }
+
+    // The clause of the first assumed literal, then the first held clause, that has no literal in the set.
+    pub fn unmet(self, set: ClauseMask) -> Option<ClauseMask>
+        ensures { Checked self.entry.masks.now self.entry.assumed.now set result }
+    {
+        let assumed = self.assumed.iter();
+        let held = self.masks.iter();
+        assumed
+            .map(|literal| ClauseMask::NONE.with_literal(*literal))
+            .chain(held.copied())
+            .find(|clause| !clause.meets(set))
+    }
+}

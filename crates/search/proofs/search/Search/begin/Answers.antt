@@ -1,0 +1,22 @@
+use Rattle.std.proofs.lemmas.Result.{MatchResult-weaker}
+use Rattle.search.proofs.search.Search.begin.Goals as goal
+
+pub returns-in-Some : goal.returns-in-Some
+returns-in-Some c =
+    let found = c.in-Some.ensures.found.1 in
+    record {
+      keeps = λ base given up. c.learn.ensures.keeps base (found base given.1) (c.assume.ensures.keeps base given.1 up);
+      cases = MatchResult-weaker c.learn.result c.learn.ensures.cases (λ x h. tt) (λ x f base given up. f base (found base given.1) (c.assume.ensures.keeps base given.1 up));
+    }
+
+pub returns-in-Some-sweep : goal.returns-in-Some-sweep
+returns-in-Some-sweep c =
+    let found = c.in-Some-sweep.ensures.found.1 in
+    record {
+      keeps = λ base given up. c.learn-in-Some-sweep.ensures.keeps base (found base given.0) (c.sweep.ensures.keeps base given.0 (c.assume.ensures.keeps base given.1 up));
+      cases = MatchResult-weaker c.learn-in-Some-sweep.result c.learn-in-Some-sweep.ensures.cases (λ x h. tt)
+          (λ x f base given up. f base (found base given.0) (c.sweep.ensures.keeps base given.0 (c.assume.ensures.keeps base given.1 up)));
+    }
+
+pub returns-clause-keeps : goal.returns-clause-keeps
+returns-clause-keeps c base given up = c.sweep.ensures.keeps base given.0 (c.assume.ensures.keeps base given.1 up)

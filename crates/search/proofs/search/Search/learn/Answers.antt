@@ -1,0 +1,21 @@
+use Rattle.std.proofs.Common.{take, arith}
+use Rattle.trail.specs.Entries.{entries}
+use Rattle.trail.proofs.Standing.{sound_take}
+use Rattle.search.proofs.Stepping.{sound_appended, height_changed}
+use Rattle.search.proofs.search.Search.learn.Goals as goal
+
+pub returns : goal.returns
+returns c =
+    let jump = c.in_ok-jump.jump in
+    let found = rw c.in_ok-jump.ensures.ok_part at c.analyze.ensures in
+    let made = c.change.ensures.taken found.0 found.1 found.2 in
+    let ds = entries c.args.self.now.trail in
+    let es = entries c.change.new.self in
+    record {
+      keeps = λ base implied up.
+          let taught = found.4 base c.requires up.0 implied in (
+            sound_appended base (take jump.to ds) es _ _ _ made (sound_take base ds jump.to (omega (arith, found.0)) up.0) taught,
+            c.remember.ensures base up.1 taught.0,
+          );
+      cases = height_changed ds es jump.to _ _ _ c.args.self.now.trail.once found.0 found.3 made;
+    }

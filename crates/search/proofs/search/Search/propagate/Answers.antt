@@ -1,0 +1,48 @@
+use Rattle.std.proofs.Common.{sym, subst, arith}
+use Rattle.masks.specs.Questions.{Each}
+use Rattle.trail.specs.Entries.{entries}
+use Rattle.trail.specs.Reasons.{Sound}
+use Rattle.trail.proofs.Deciding.{at_most}
+use Rattle.search.specs.Searches.{Extends}
+use Rattle.search.proofs.Stepping.{extends_trans}
+use Rattle.search.proofs.search.Search.propagate.Goals as goal
+
+pub returns-in-Some-follow-clause-keeps : goal.returns-in-Some-follow-clause-keeps
+returns-in-Some-follow-clause-keeps c base each up =
+    let kept = c.loop-decision.invariant.keeps base each up in
+    (c.follow.ensures.sound base each (subst (Sound base) (sym c.advance.ensures.entries) kept.0), kept.1)
+
+pub returns-in-Some-follow-2-clause-keeps : goal.returns-in-Some-follow-2-clause-keeps
+returns-in-Some-follow-2-clause-keeps c base each up =
+    let kept = c.loop-decision.invariant.keeps base each up in (
+      c.follow-in-Some.ensures.sound base (subst (Each base) (sym c.as_slice.ensures.value) kept.1)
+          (c.follow.ensures.sound base each (subst (Sound base) (sym c.advance.ensures.entries) kept.0)),
+      kept.1,
+    )
+
+pub returns-in-Some-follow-2-clause-found : goal.returns-in-Some-follow-2-clause-found
+returns-in-Some-follow-2-clause-found c =
+    let found = c.in-Some-follow-2.ensures.found in
+    (found.0, λ base both. found.1 base (subst (Each base) (sym c.as_slice.ensures.value) (c.loop-decision.invariant.keeps base both.0 both.1).1))
+
+pub returns-clause-keeps : goal.returns-clause-keeps
+returns-clause-keeps c base each up =
+    let kept = c.loop-decision.invariant.keeps base each up in
+    (subst (Sound base) (sym c.advance.ensures.entries) kept.0, kept.1)
+
+pub loop-decision-preserved : goal.loop-decision-preserved
+loop-decision-preserved c =
+    record {
+      more = extends_trans _ _ _ (extends_trans _ _ _ (subst (Extends (entries c.args.self.now.trail)) (sym c.advance.ensures.entries) c.loop-decision.invariant.more) c.follow.ensures.more) c.follow-in-Some.ensures.more;
+      keeps = λ base each up.
+          let kept = c.loop-decision.invariant.keeps base each up in (
+            c.follow-in-Some.ensures.sound base (subst (Each base) (sym c.as_slice.ensures.value) kept.1)
+                (c.follow.ensures.sound base each (subst (Sound base) (sym c.advance.ensures.entries) kept.0)),
+            kept.1,
+          );
+    }
+
+pub loop-decision-smaller : goal.loop-decision-smaller
+loop-decision-smaller c =
+    let m = at_most (entries c.loop-decision.self.trail) c.loop-decision.self.trail.once in
+    omega (arith, c.in-Some.ensures.found, c.follow.ensures.done, c.follow-in-Some.ensures.done)

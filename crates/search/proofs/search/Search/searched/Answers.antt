@@ -1,0 +1,19 @@
+use Rattle.std.proofs.Common.{arith}
+use Rattle.std.proofs.lemmas.Result.{MatchResult-from_err}
+use Rattle.trail.specs.Entries.{entries}
+use Rattle.trail.proofs.Standing.{height_below}
+use Rattle.search.proofs.search.Search.searched.Goals as goal
+
+pub returns-in_err-turn : goal.returns-in_err-turn
+returns-in_err-turn c =
+    MatchResult-from_err c.from_residual-in_err-turn.result _ _ c.from_residual-in_err-turn.ensures.0
+    (λ x base given up. c.in_err-turn.ensures.cases base given (c.turns.invariant base given (c.begin.ensures.keeps base given up)))
+
+pub turns-smaller : goal.turns-smaller
+turns-smaller c =
+    let h = height_below 128 (entries c.turn.new.self.trail) in
+    let e = rw c.in-Further.is at c.in_ok-turn.ensures.cases in
+    omega (arith, e)
+
+pub turns-preserved : goal.turns-preserved
+turns-preserved c base given up = c.turn.ensures.keeps base given (c.turns.invariant base given up)
