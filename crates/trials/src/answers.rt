@@ -20,14 +20,12 @@ const ROWS: [(ListName, usize, Answered); 8] = [
 ];
 
 fn answered(case: &Case, list: ListName, number: usize) -> Answered {
-    match case.clause(list, number) {
-        Ok(clause) => Ok((
-            clause.at,
-            clause.literals.len(),
-            clause.literals.last().copied(),
-        )),
-        Err(fault) => Err(refused(&fault)),
-    }
+    let clause = case.clause(list, number).map_err(|fault| refused(&fault))?;
+    Ok((
+        clause.at,
+        clause.literals.len(),
+        clause.literals.last().copied(),
+    ))
 }
 
 #[test]

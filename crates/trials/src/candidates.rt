@@ -31,10 +31,9 @@ const LONG_ROWS: [(usize, usize, [u8; 2], Listed); 6] = [
 ];
 
 fn listed(bytes: &[u8]) -> Listed {
-    match read_candidates(2, bytes) {
-        Ok(list) => Ok(list.len()),
-        Err(fault) => Err(refused(&fault)),
-    }
+    read_candidates(2, bytes)
+        .map(|list| list.len())
+        .map_err(|fault| refused(&fault))
 }
 
 fn long_list(heap: Global, len: usize, at: usize, values: &[u8]) -> Result<Vec<u8>, AllocError> {

@@ -1,5 +1,5 @@
 // Cases at the limits of the format, run: tables of changed bytes with the refusal that each must bring. The expected
-// values are worked out by hand from the description of the format, not from the code.
+// values are worked out by hand from the description of the format, not from the code. Both solvers are made and asked too.
 #![tactic(auto)]
 
 #[cfg(test)]
@@ -12,3 +12,5 @@ mod changes;
 mod lengths;
 #[cfg(test)]
 mod samples;
+#[cfg(test)]
+mod solvers;

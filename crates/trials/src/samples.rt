@@ -3,7 +3,7 @@ use cases::Case;
 use faults::Fault;
 use std::alloc::Global;
 
-// Layer, number and place of a refusal.
+// Layer, number and place of a refusal: a tuple, since a struct in each row would hide the numbers.
 pub type Refused = (u32, u32, usize);
 
 // Nothing where the bytes are accepted.
@@ -37,10 +37,9 @@ pub fn put(bytes: &mut [u8], at: usize, values: &[u8]) {
 
 // What reading says of the bytes.
 pub fn said(heap: Global, bytes: &[u8]) -> Said {
-    match Case::read(heap, bytes) {
-        Ok(_) => ACCEPTED,
-        Err(fault) => Err(refused(&fault)),
-    }
+    Case::read(heap, bytes)
+        .map(|_case| ())
+        .map_err(|fault| refused(&fault))
 }
 
 // What a fault tells of itself.
