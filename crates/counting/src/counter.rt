@@ -35,7 +35,7 @@ fn next(trues: u128, falses: u128) -> Option<u128>
 
 // The answer: the first assignment that serves, or none.
 fn counted(question: Question) -> Answer
-    ensures { Decided question.entry.masks.now question.entry.assumed.now result }
+    ensures { Decided question.entry result }
 {
     let all = question.variables();
     let mut trues = 0;

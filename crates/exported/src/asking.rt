@@ -26,6 +26,7 @@ fn load<S: Solver>(solver: &mut S, list: ClauseList) -> Result<(), NoCapacity>
 fn ask<S: Solver>(solver: &mut S, list: ClauseList, replies: &mut [Reply])
     ensures { length (clauses_of list.entry) ≡ length replies.old → Replied (S.Solver.held solver.old) (clauses_of list.entry) replies.new }
 {
+    // stays a next by hand: a zip was tried, and a proof knows nothing of what is written through one
     let mut questions = list;
     for reply in replies.iter_mut() {
         let Some(assumed) = questions.next() else {
@@ -54,7 +55,7 @@ fn asked<S: Solver + Drop>(
 
 // The answers of a propagating solver with room for so many clauses and literals that holds so many clauses of a list, to
 // the questions of another, one for each reply. It is 0 where all was asked, and else 1 without memory and 2 where a
-// clause did not fit.
+// clause did not fit; it stays a number, since C reads it.
 #[unsafe(no_mangle)]
 pub extern "C" fn hokhnebi_propagating(
     heap: Global,

@@ -23,7 +23,7 @@ impl From<NoCapacity> for AskFault {
     }
 }
 
-// What the calls answer to C: 0 where all was asked.
+// What the calls answer to C: 0 where all was asked. It stays a function: no From leads from a result to a number.
 pub(crate) fn code_of(asked: Result<(), AskFault>) -> u32
     ensures { result ≡ 0 → IsOk asked }
 {

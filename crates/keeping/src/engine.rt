@@ -11,5 +11,5 @@ pub trait Engine: Sized + Drop {
     fn prepare(heap: Global, capacity: Capacity) -> Result<Self, AllocError>;
 
     fn answer(&mut self, question: Question) -> Answer
-        ensures { Decided question.entry.masks.now question.entry.assumed.now result };
+        ensures { Decided question.entry result };
 }

@@ -45,7 +45,7 @@ fn word_at(bytes: &[u8], i: usize) -> u16
     u16::from_le_bytes([low, high])
 }
 
-// The same as a wider number.
+// The same as a wider number. It stays, since it is public and promises a u32.
 pub fn read_field(bytes: &[u8], i: usize) -> u32
     ensures { result ≡ field bytes.now i }
 {

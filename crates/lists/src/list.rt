@@ -6,8 +6,8 @@ ghost use Rattle.lists.specs.Lists.{clauses_of};
 ghost use Rattle.std.specs.Iterator.{item_count, YieldsFirstRef};
 
 // A list of clauses in bytes, which gives them in order. Where a clause would pass the end, it has what is there: of a
-// list that was read without a fault that is every clause whole. Lists are equal where all their bytes are, also those
-// past the last clause.
+// list that was read without a fault that is every clause whole. Lists are equal where their counts and all their
+// bytes are, also those past the last clause.
 #[derive(Clone, Copy, PartialEq, Eq, Debug)]
 pub struct ClauseList<'a> {
     count: usize,

@@ -6,6 +6,7 @@ use Rattle.solver.specs.Answers.{Answered}
 use Rattle.solver.specs.declared.answer.Answer.{Answer}
 use Rattle.masks.specs.Masks.{inside, none, with_literal, mask_of, Implied, Meets, Apart}
 use Rattle.masks.specs.declared.mask.ClauseMask.{ClauseMask}
+use Rattle.masks.specs.declared.question.Question.{Question}
 
 -- the clause of an assumed literal
 abbrev pub unit : ℕ → ClauseMask
@@ -49,5 +50,5 @@ Checked masks assumed set None = AllMet masks set × AllKept assumed set
 Checked masks assumed set (Some m) = Among masks assumed m × Apart m set
 
 -- the answer is right for every list of held clauses whose sets of literals these are
-abbrev pub Decided : List ClauseMask → List ℕ → Answer → Type 0
-Decided masks assumed r = (held : List (List ℕ)) → masks ≡ map mask_of held → Answered held assumed r
+abbrev pub Decided : Question → Answer → Type 0
+Decided question r = (held : List (List ℕ)) → question.masks.now ≡ map mask_of held → Answered held question.assumed.now r

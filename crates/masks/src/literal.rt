@@ -1,3 +1,4 @@
+// Literals, and the bytes that stand for them.
 ghost use Rattle.std.specs.Prelude.{◌≡◌, ◌/◌, ◌%◌, ◌==◌};
 
 // A literal: it is true where the variable has the value.

@@ -1,3 +1,4 @@
+// Sets of literals, and how a clause stands under a partial assignment.
 ghost use Rattle.std.specs.Prelude.{◌≡◌, ℕ, ◌%◌, Bool, true, false, not, ◌&&◌, ◌||◌, MatchBool, ◌==◌};
 ghost use Rattle.system.specs.Literals.{bit};
 ghost use Rattle.masks.specs.Masks.{inside, with_value, with_literal, mask_of, Meets, Apart};

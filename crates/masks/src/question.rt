@@ -1,3 +1,4 @@
+// Questions that a solver's engine answers.
 ghost use Rattle.masks.specs.Questions.{Among, Within, Checked};
 ghost use Rattle.masks.specs.declared.mask.ClauseMask.{ClauseMask};
 
@@ -15,7 +16,7 @@ impl<'a> Question<'a> {
     pub fn variables(self) -> u128
         ensures { (m : ClauseMask) → Among self.entry.masks.now self.entry.assumed.now m → Within result m }
     {
-        // stays two loops: a fold over the chain of both has a longer proof
+        // two plain loops: a chain of both needs a map and a fold, and is no plainer
         let mut found = 0u128;
         for mask in self.masks {
             found |= mask.variables();

@@ -19,6 +19,7 @@ pub fn open_line(heap: Global, case: &Case) -> Result<String, AllocError>
     let start = case.list(ListName::Start).len();
     let step = case.list(ListName::Step).len();
     let safety = case.list(ListName::Safety).len();
+    // stays a format!: nothing else prints a case
     format!(in heap; "open {relays} {inputs} {start} {step} {safety}")
 }
 

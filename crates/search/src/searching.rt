@@ -149,7 +149,7 @@ impl Search {
 
     // The answer to the question.
     pub fn answer(&mut self, question: Question) -> Answer
-        ensures { Decided question.entry.masks.now question.entry.assumed.now result }
+        ensures { Decided question.entry result }
     {
         self.trail.clear();
         self.learned.clear();

@@ -1,6 +1,6 @@
 // Two literals of each clause that are watched: the clause is looked at when one of them becomes false. Nothing rests on
 // what is watched but speed: a clause that goes unnoticed is found by the last pass over all held clauses.
-ghost use Rattle.std.specs.Prelude.{◌<◌, ◌≤◌, vec_len, vec_capacity};
+ghost use Rattle.std.specs.Prelude.{◌<◌};
 
 use masks::{ClauseMask, Standing, has_variable, set_of, without};
 use std::alloc::{AllocError, Global};
@@ -29,8 +29,6 @@ pub struct Watches {
     heads: [Option<usize>; 256],
     // all links stand in one table, as nothing is allocated once it is made
     links: Vec<Link>,
-    room: usize,
-    ghost space: { (vec_len links ≤ room) × (room ≤ vec_capacity links) },
 }
 
 // The highest of the variables. It is 0 where there is none, so that each clause has two links all the same.
@@ -48,12 +46,10 @@ fn literal_in(mask: ClauseMask, variable: u8) -> u8 {
 impl Watches {
     // Watches nothing, with room for so many clauses.
     pub fn new(heap: Global, clauses: usize) -> Result<Watches, AllocError> {
-        let room = clauses.saturating_mul(2);
-        let links = Vec::with_capacity(heap, room)?;
+        let links = Vec::with_capacity(heap, clauses.saturating_mul(2))?;
         Ok(Watches {
             heads: [None; 256],
             links,
-            room,
         })
     }
 
@@ -69,7 +65,7 @@ impl Watches {
     // Watches the literal for the clause, where there is room for one more.
     fn link(&mut self, clause: usize, literal: u8) {
         let place = self.links.len();
-        if place >= self.room {
+        if place >= self.links.capacity() {
             return;
         }
         let next = self.heads[usize::from(literal)].replace(place);

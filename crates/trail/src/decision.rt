@@ -11,7 +11,7 @@ pub enum Forcing {
     Forced(ClauseMask),
 }
 
-// It stays flat: a rule of the project names the three as its fields.
+// It stays flat: that the three are its fields is a form that the project fixes (docs/DECISIONS.md).
 #[derive(Clone, Copy, PartialEq, Eq, Debug)]
 pub struct Decision {
     pub variable: u8,

@@ -87,7 +87,7 @@ impl Trail {
         }
     }
 
-    // Lets go of all decisions behind the entry and lends that one to change it, where the variable has no value before it.
+    // Lets go of all decisions behind the entry and changes that one in its place, where the variable has no value before it.
     pub fn change(&mut self, at: usize, literal: Literal, forcing: Forcing)
         ensures { Changed (entries self.old) at literal.variable literal.value forcing (entries self.new) }
     {
