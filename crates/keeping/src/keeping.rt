@@ -16,7 +16,7 @@ pub struct Keeping<E> {
 impl<E: Engine> Keeping<E> {
     // Holds nothing, and reserves all the memory that it will use; fails only for want of memory.
     pub fn new(heap: Global, capacity: Capacity) -> Result<Keeping<E>, AllocError>
-        ensures { IfOk result (λ s. (s.storage.held ≡ []) × (s.storage.capacity ≡ capacity)) }
+        ensures { IfOk result (λ s. (⟦<Keeping<E> as Solver>⟧.held s ≡ []) × (⟦<Keeping<E> as Solver>⟧.capacity s ≡ capacity)) }
     {
         let storage = Storage::new(heap, capacity)?;
         let engine = E::prepare(heap, capacity)?;

@@ -1,5 +1,5 @@
 -- What the steps of a search do: propagating, choosing, and jumping back.
-use Rattle.std.specs.Prelude.{◌≡◌, ℕ, ◌<◌, List, ◌++◌, Some, None, Option, vec_items}
+use Rattle.std.specs.Prelude.{◌≡◌, ℕ, ◌<◌, List, [], ◌∷◌, ◌++◌, Some, None, Option, vec_items}
 use Rattle.masks.specs.Masks.{Implied}
 use Rattle.masks.specs.Questions.{Each, Given, Hopeless, AllMet, AllKept, Among, Within}
 use Rattle.masks.specs.declared.question.Question.{Question}
@@ -9,6 +9,7 @@ use Rattle.masks.specs.declared.mask.Standing.TheVariants.{True, Open, Forces, F
 use Rattle.trail.specs.Entries.{entries}
 use Rattle.trail.specs.Reasons.{Refuted, Sound, height}
 use Rattle.trail.specs.declared.decision.Decision.{Decision}
+use Rattle.trail.specs.declared.decision.Forcing.TheVariants.{Forced}
 use Rattle.search.specs.declared.progress.Progress.{Progress}
 use Rattle.search.specs.declared.progress.Progress.TheVariants.{Satisfied, Further}
 use Rattle.search.specs.declared.search.Search.{Search}
@@ -48,6 +49,12 @@ Keeps premise before after = (base : List (List ℕ)) → premise base → Uphel
 -- wherever the premise holds and they do so, nothing can be true
 abbrev pub Refutes : (List (List ℕ) → Type 0) → Search → Type 0
 Refutes premise s = (base : List (List ℕ)) → premise base → Upheld base s → Hopeless base
+
+-- the last clause that was learned is what forced the last decision
+abbrev pub Taught : Search → Type 0
+Taught s =
+    (m : ClauseMask) × (d : Decision) × (ds : List Decision) × (ms : List ClauseMask)
+    × (entries s.trail ≡ ds ++ d ∷ []) × (d.forcing ≡ Forced m) × (vec_items s.learned.clauses ≡ ms ++ m ∷ [])
 
 -- the number of the trail rises
 abbrev pub Rises : Search → Search → Type 0

@@ -1,7 +1,8 @@
 // What is done to the cache of learned clauses.
-ghost use Rattle.std.specs.Prelude.{◌≡◌, ℕ, ◌<◌, List, [], vec_len};
+ghost use Rattle.std.specs.Prelude.{◌≡◌, ℕ, ◌<◌, List, [], ◌∷◌, ◌++◌, vec_len};
 ghost use Rattle.masks.specs.Masks.{Implied};
 ghost use Rattle.masks.specs.Questions.{Each};
+ghost use Rattle.masks.specs.declared.mask.ClauseMask.{ClauseMask};
 
 use crate::learned::Learned;
 use crate::watches::Watches;
@@ -34,7 +35,8 @@ impl Learned {
 
     // Keeps the clause, watched by two of its variables, and lets the others go where there is no room.
     pub fn remember(&mut self, clause: ClauseMask, one: u8, other: u8)
-        ensures { (base : List (List ℕ)) → Each base self.old.clauses.items → Implied base clause → Each base self.new.clauses.items }
+        ensures last { (earlier : List ClauseMask) × (self.new.clauses.items ≡ earlier ++ clause ∷ []) }
+        ensures each { (base : List (List ℕ)) → Each base self.old.clauses.items → Implied base clause → Each base self.new.clauses.items }
     {
         self.make_room();
         self.watches.watch(self.clauses.len(), clause, one, other);

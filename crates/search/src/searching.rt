@@ -1,12 +1,12 @@
 // The search: propagate, learn from a conflict and jump back, or choose, until all is true or nothing can be.
-ghost use Rattle.std.specs.Prelude.{◌≡◌, ℕ, ◌<◌, true, MatchResult};
+ghost use Rattle.std.specs.Prelude.{◌≡◌, ℕ, ◌<◌, true, IfOk, MatchResult};
 ghost use Rattle.system.specs.Literals.{bit};
 ghost use Rattle.masks.specs.Masks.{Implied};
 ghost use Rattle.masks.specs.Questions.{Units, Decided};
 ghost use Rattle.masks.specs.Standings.{Unassigned};
 ghost use Rattle.trail.specs.Entries.{entries};
 ghost use Rattle.trail.specs.Reasons.{Refuted};
-ghost use Rattle.search.specs.Searches.{Conflict, Asked, Occurring, Keeps, Refutes, Rises, Satisfies, Turned};
+ghost use Rattle.search.specs.Searches.{Conflict, Asked, Occurring, Keeps, Refutes, Taught, Rises, Satisfies, Turned};
 
 use crate::learned::Learned;
 use crate::progress::{Progress, Unsatisfiable};
@@ -41,10 +41,11 @@ impl Search {
         })
     }
 
-    // Learns from a clause that is all false, and jumps back.
+    // Learns from a clause that is all false, and jumps back: what is learned forces what is decided there.
     fn learn(&mut self, conflict: ClauseMask) -> Result<(), Unsatisfiable>
         requires { Refuted conflict (entries self.old.trail) }
         ensures keeps { Keeps (λ base. Implied base conflict) self.old self.new }
+        ensures taught { IfOk result (λ _. Taught self.new) }
         ensures cases { MatchResult result (λ _. Rises self.old self.new) (λ _. Refutes (λ base. Implied base conflict) self.old) }
     {
         let jump = analyze(&self.trail, conflict).ok_or(Unsatisfiable)?;
