@@ -1,11 +1,14 @@
 // Cases at the limits of the format, run: tables of changed bytes with the refusal that each must bring. The expected
-// values are worked out by hand from the description of the format, not from the code. Both solvers are made and asked too.
+// values are worked out by hand from the description of the format, not from the code. And both solvers at the edges of what
+// they hold and of the variables that there are.
 #![tactic(auto)]
 
 #[cfg(test)]
 mod answers;
 #[cfg(test)]
 mod candidates;
+#[cfg(test)]
+mod capacities;
 #[cfg(test)]
 mod changes;
 #[cfg(test)]
@@ -14,3 +17,5 @@ mod lengths;
 mod samples;
 #[cfg(test)]
 mod solvers;
+#[cfg(test)]
+mod variables;
