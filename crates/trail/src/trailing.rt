@@ -1,7 +1,7 @@
 // What is done to a trail.
-ghost use Rattle.std.specs.Prelude.{◌≡◌, ◌+◌, ◌<◌, ◌≤◌, [], length, IfOk, MatchBool, MatchOption, slice_index_or};
+ghost use Rattle.std.specs.Prelude.{◌≡◌, ◌+◌, ◌<◌, ◌≤◌, [], length, take, IfOk, MatchBool, MatchOption, slice_index_or};
 ghost use Rattle.masks.specs.Standings.{Unassigned};
-ghost use Rattle.trail.specs.Decisions.{literals_of};
+ghost use Rattle.trail.specs.Decisions.{Free, literals_of};
 ghost use Rattle.trail.specs.Changes.{Assigned, Changed};
 ghost use Rattle.trail.specs.Entries.{entries};
 
@@ -30,7 +30,7 @@ fn is_free(assigned: ClauseMask, variable: u8) -> bool
 impl Trail {
     // No decision, with room for one on each variable.
     pub fn new(heap: Global) -> Result<Trail, AllocError>
-        ensures { IfOk result (λ t. entries t ≡ []) }
+        ensures { IfOk result (λ t. (entries t ≡ []) × (t.done ≡ 0)) }
     {
         let decisions = Vec::with_capacity(heap, 128)?;
         Ok(Trail {
@@ -41,7 +41,8 @@ impl Trail {
     }
 
     pub fn clear(&mut self)
-        ensures { entries self.new ≡ [] }
+        ensures entries { entries self.new ≡ [] }
+        ensures done { self.new.done ≡ 0 }
     {
         self.decisions.clear();
         self.assigned = ClauseMask::NONE;
@@ -88,8 +89,10 @@ impl Trail {
     }
 
     // Lets go of all decisions behind the entry and changes that one in its place, where the variable has no value before it.
+    // It was not handed out then.
     pub fn change(&mut self, at: usize, literal: Literal, forcing: Forcing)
-        ensures { Changed (entries self.old) at literal.variable literal.value forcing (entries self.new) }
+        ensures entries { Changed (entries self.old) at literal.variable literal.value forcing (entries self.new) }
+        ensures done { at < length (entries self.old) → literal.variable < 128 → Free (take at (entries self.old)) literal.variable → self.new.done ≤ at }
     {
         if at >= self.decisions.len() {
             return;

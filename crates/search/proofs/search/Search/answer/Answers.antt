@@ -19,4 +19,4 @@ returns-in-Ok c held e =
 pub returns-in-Err : goal.returns-in-Err
 returns-in-Err c held e =
     no_answered held c.args.question.assumed.now c.args.question.masks.now e (λ base given. c.in-Err.ensures base given
-    (sound_none base (entries c.clear.new.self) c.clear.ensures, each_none base (vec_items c.clear-2.new.self.clauses) c.clear-2.ensures))
+    (sound_none base (entries c.clear.new.self) c.clear.ensures.entries, each_none base (vec_items c.clear-2.new.self.clauses) c.clear-2.ensures))

@@ -8,7 +8,7 @@ pub returns-clause-keeps : goal.returns-clause-keeps
 returns-clause-keeps c base implied up =
     let jump = c.in_ok-jump.jump in
     let found = rw c.in_ok-jump.ensures.ok_part at c.analyze.ensures in
-    let made = c.change.ensures.taken found.0 found.1 found.2 in
+    let made = c.change.ensures.entries.taken found.0 found.1 found.2 in
     let ds = entries c.args.self.now.trail in
     let taught = found.4 base c.requires up.0 implied in (
       sound_appended base (take jump.to ds) (entries c.change.new.self) _ _ _ made (sound_take base ds jump.to (omega (arith, found.0)) up.0) taught,
@@ -19,12 +19,12 @@ pub returns-clause-taught : goal.returns-clause-taught
 returns-clause-taught c =
     let jump = c.in_ok-jump.jump in
     let found = rw c.in_ok-jump.ensures.ok_part at c.analyze.ensures in
-    let made = c.change.ensures.taken found.0 found.1 found.2 in
+    let made = c.change.ensures.entries.taken found.0 found.1 found.2 in
     (jump.clause, made.made, take jump.to (entries c.args.self.now.trail), c.remember.ensures.last.0, made.is, made.forcing, c.remember.ensures.last.1)
 
 pub returns-clause-cases : goal.returns-clause-cases
 returns-clause-cases c =
     let jump = c.in_ok-jump.jump in
     let found = rw c.in_ok-jump.ensures.ok_part at c.analyze.ensures in
-    let made = c.change.ensures.taken found.0 found.1 found.2 in
+    let made = c.change.ensures.entries.taken found.0 found.1 found.2 in
     height_changed (entries c.args.self.now.trail) (entries c.change.new.self) jump.to _ _ _ c.args.self.now.trail.once found.0 found.3 made

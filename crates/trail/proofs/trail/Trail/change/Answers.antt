@@ -17,8 +17,8 @@ invariant_of-self c =
       space = omega (arith, c.args.self.now.space, c.truncate.ensures.capacity);
     }
 
-pub returns-then-is_free : goal.returns-then-is_free
-returns-then-is_free c =
+pub returns-then-is_free-clause-entries : goal.returns-then-is_free-clause-entries
+returns-then-is_free-clause-entries c =
     let ds = entries c.args.self.now in
     let free = c.if-is_free.ensures in
     let w : c.args.at < length ds = omega (arith, c.if-at-len.false, c.len.ensures, c.args.self.now.decisions.ok.0) in
@@ -28,7 +28,12 @@ returns-then-is_free c =
       left = λ n. absurd (n (w, free.0, free_in _ _ _ kept free.1));
     }
 
-pub returns-else-is_free : goal.returns-else-is_free
-returns-else-is_free c =
+pub returns-else-is_free-clause-entries : goal.returns-else-is_free-clause-entries
+returns-else-is_free-clause-entries c =
     let kept : Spells c.spelled-before.result (take c.args.at (entries c.args.self.now)) = spells_all _ _ (c.spelled-before.ensures ∙ ap (λ xs. literals_of (take c.args.at xs)) c.deref.ensures.value) in
     record { taken = λ l h f. absurd (c.if-is_free.ensures (h, λ b. kept c.args.literal.variable b ∙ f b)); left = λ n. refl }
+
+pub returns-else-is_free-clause-done : goal.returns-else-is_free-clause-done
+returns-else-is_free-clause-done c =
+    let kept : Spells c.spelled-before.result (take c.args.at (entries c.args.self.now)) = spells_all _ _ (c.spelled-before.ensures ∙ ap (λ xs. literals_of (take c.args.at xs)) c.deref.ensures.value) in
+    λ w l f. absurd (c.if-is_free.ensures (l, λ b. kept c.args.literal.variable b ∙ f b))
