@@ -8,10 +8,10 @@ use Rattle.std.proofs.lemmas.Nat.Bits.{bit_at_not}
 use Rattle.std.specs.Int.{bit_not, w128}
 use Rattle.std.specs.Cmp.{booleans_Decides}
 use Rattle.system.specs.Literals.{bit}
-use Rattle.system.proofs.Bits.{bit_of_and, bit_of_or, bit_none, bit_pow, bit_above, Lowest, lowest}
+use Rattle.system.proofs.Bits.{bit_of_and, bit_of_or, bit_none, bit_pow, bit_above, Lowest, lowest, second}
 use Rattle.masks.specs.Masks.{inside, none, with_value, Meets, Apart}
-use Rattle.masks.specs.Standings.{Unassigned, Alone, AllFalse, Stands}
-use Rattle.masks.specs.declared.mask.Standing.TheVariants.{Forces}
+use Rattle.masks.specs.Standings.{Unassigned, Alone, AllFalse, TwoOpen, Stands}
+use Rattle.masks.specs.declared.mask.Standing.TheVariants.{Open, Forces}
 use Rattle.masks.specs.declared.mask.ClauseMask.{ClauseMask}
 
 -- a and not b
@@ -164,6 +164,40 @@ module _ (m s : ClauseMask) (p n k : ℕ)
             | inl q ↦ inl (eqb-true j v (sym (ap (λ x. bit x j) (e ∙ ap (λ x. 2 ^ x) (mod-eq_of_lt first.small)) ∙ bit_pow v j) ∙ some_of j c q), same c b j other q)
             | inr q ↦ inr q
           ]
+
+  signed : (j : ℕ) → bit (bit_or p n) j ≡ true → (b : Bool) × (inside o j b ≡ true)
+  signed j t = elim (or_cases (bit p j) (bit n j) (sym (bit_of_or p n j) ∙ t)) [ inl q ↦ (true, q) | inr q ↦ (false, q) ]
+
+  two : (i j : ℕ) (b c : Bool) → inside o i b ≡ true → inside o j c ≡ true → (i ≡ j → b ≡ c → ⊥) → TwoOpen m s
+  two i j b c t u d =
+      record {
+        one = i;
+        one_sign = b;
+        one_inside = (and_parts (inside m i b) (not (bit k i)) (sym (opens i b) ∙ t)).0;
+        one_open = free i b t;
+        other = j;
+        other_sign = c;
+        other_inside = (and_parts (inside m j c) (not (bit k j)) (sym (opens j c) ∙ u)).0;
+        other_open = free j c u;
+        different = d;
+      }
+
+  -- where literals of more than one variable are left
+  pub more_open : p < 2 ^ 128 → n < 2 ^ 128 → (bit_or p n ≡ 0 → ⊥) → (bit_or p n ≡ 2 ^ (count_trailing_zeros 128 (bit_or p n) % 128) → ⊥) → Stands m s Open
+  more_open pl nl z e =
+      let l = or_lt 128 p n pl nl in
+      let first = lowest 128 (bit_or p n) (omega arith) l in
+      let next = second 128 (bit_or p n) _ l first (λ f. e (f ∙ ap (λ x. 2 ^ x) (sym (mod-eq_of_lt first.small)))) in
+      let one = signed _ first.is in
+      let other = signed next.0 next.2 in
+      (apart, two _ next.0 one.0 other.0 one.1 other.1 (λ f g. let a = next.1 in omega arith))
+
+  -- where a plain literal and a negated one are left
+  pub both_open : p < 2 ^ 128 → n < 2 ^ 128 → (p ≡ 0 → ⊥) → (n ≡ 0 → ⊥) → Stands m s Open
+  both_open pl nl a b =
+      let one = lowest 128 p (omega arith) pl in
+      let other = lowest 128 n (omega arith) nl in
+      (apart, two _ _ true false one.is other.is (λ f g. true≢false g))
 
 eqb_swap : (i j : ℕ) → eqb i j ≡ eqb j i
 eqb_swap i j = elim (cases_eq i j) [ inl e ↦ eq-eqb i j e ∙ sym (eq-eqb j i (sym e)) | inr n ↦ ne_eqb i j n ∙ sym (ne_eqb j i (λ e. n (sym e))) ]

@@ -40,6 +40,10 @@ AllKept assumed assigned = (k : ℕ) → k < length assumed → Meets (unit (sli
 abbrev pub Among : List ClauseMask → List ℕ → ClauseMask → Type 0
 Among masks assumed m = Contains masks m ⊎ ((l : ℕ) × Contains assumed l × (m ≡ unit l))
 
+-- variable j occurs in a held clause or in an assumed literal
+abbrev pub Mentioned : List ClauseMask → List ℕ → ℕ → Type 0
+Mentioned masks assumed j = (m : ClauseMask) × (b : Bool) × Among masks assumed m × (inside m j b ≡ true)
+
 -- every variable of the set is one of x
 abbrev pub Within : ℕ → ClauseMask → Type 0
 Within x m = (j : ℕ) (c : Bool) → inside m j c ≡ true → bit x j ≡ true

@@ -1,5 +1,7 @@
 // Questions that a solver's engine answers.
-ghost use Rattle.masks.specs.Questions.{Among, Within, Checked};
+ghost use Rattle.std.specs.Prelude.{◌≡◌, ℕ, true};
+ghost use Rattle.system.specs.Literals.{bit};
+ghost use Rattle.masks.specs.Questions.{Among, Mentioned, Within, Checked};
 ghost use Rattle.masks.specs.declared.mask.ClauseMask.{ClauseMask};
 
 use crate::mask::ClauseMask;
@@ -14,7 +16,8 @@ pub struct Question<'a> {
 impl<'a> Question<'a> {
     // The variables of the clauses and of the assumed literals.
     pub fn variables(self) -> u128
-        ensures { (m : ClauseMask) → Among self.entry.masks.now self.entry.assumed.now m → Within result m }
+        ensures all { (m : ClauseMask) → Among self.entry.masks.now self.entry.assumed.now m → Within result m }
+        ensures just { (j : ℕ) → bit result j ≡ true → Mentioned self.entry.masks.now self.entry.assumed.now j }
     {
         // two plain loops: a chain of both needs a map and a fold, and is no plainer
         let mut found = 0u128;

@@ -44,6 +44,6 @@ smallest_questions =
 
 -- the same where just the one clause is held, if it fits
 pub either_alone : (capacity : Capacity) (o : Option Answer) → AloneAnswered (0 ∷ 1 ∷ []) capacity o
-    → MatchOption o (fits [] (0 ∷ 1 ∷ []) capacity ≡ false) (λ r. is_yes r ≡ true)
+    → MatchOption o (fits [] (0 ∷ 1 ∷ []) capacity ≡ false) (λ r. (fits [] (0 ∷ 1 ∷ []) capacity ≡ true) × (is_yes r ≡ true))
 either_alone capacity None e = e
-either_alone capacity (Some r) (e, answered) = (smallest_questions.either r).0 answered
+either_alone capacity (Some r) (e, answered) = (e, (smallest_questions.either r).0 answered)

@@ -41,7 +41,7 @@ pub fn smallest_questions<S: Solver>(solver: &mut S) -> Smallest
     ensures nothing { is_yes result.nothing ≡ true }
     ensures opposed { result.opposed ≡ No }
     ensures empty { result.empty ≡ (if fits [] [] (S.Solver.capacity solver.old) then Some No else None) }
-    ensures either { MatchOption result.either (fits [] (0 ∷ 1 ∷ []) (S.Solver.capacity solver.old) ≡ false) (λ a. is_yes a ≡ true) }
+    ensures either { MatchOption result.either (fits [] (0 ∷ 1 ∷ []) (S.Solver.capacity solver.old) ≡ false) (λ a. (fits [] (0 ∷ 1 ∷ []) (S.Solver.capacity solver.old) ≡ true) × (is_yes a ≡ true)) }
     ensures held { S.Solver.held solver.new ≡ [] }
     ensures capacity { S.Solver.capacity solver.new ≡ S.Solver.capacity solver.old }
 {

@@ -1,13 +1,14 @@
 -- Numbers by their bits: what &, |, ^ and << do to each bit, the lowest and the highest bit that is set, the low bits. Assumes nothing.
-use Rattle.std.proofs.Common.{◌≡◌, ℕ, zero, suc, ◌+◌, ◌-◌, ◌*◌, ◌/◌, ◌%◌, ◌^◌, ◌<◌, ◌≤◌, min, max, true, false, not, ◌&&◌, ◌||◌, eqb, sym, refl, ap, ◌∙◌, pow-suc, one-add, arith, pow_pos, pow_mono, shr-shr}
+use Rattle.std.proofs.Common.{◌≡◌, ℕ, zero, suc, ◌+◌, ◌-◌, ◌*◌, ◌/◌, ◌%◌, ◌^◌, ◌<◌, ◌≤◌, min, max, true, false, not, ◌&&◌, ◌||◌, eqb, sym, refl, ap, ◌∙◌, inl, inr, pow-suc, one-add, arith, pow_pos, pow_mono, shr-shr}
 use Prim.Native.Nat.{differ}
 use native.Mathlib.Nat.{zero-div}
 use lib.Bits.{bit_and, bit_or, bit_xor, and_shr, or_shr, xor_shr, and_step, or_step, xor_step}
 use lib.Count.{count_trailing_zeros, under}
 use lib.Dec.{eqb-suc-suc}
 use lib.Pow.{field, mod-mod-pow}
-use Rattle.std.proofs.lemmas.Nat.{le-div, div_below, mod_below}
-use Rattle.std.proofs.lemmas.Bool.{eq-eqb, ne_eqb}
+use Rattle.std.proofs.Math.Nat.{div-le_self}
+use Rattle.std.proofs.lemmas.Nat.{le-div, div_below, mod_below, div-add-mod'}
+use Rattle.std.proofs.lemmas.Bool.{true≢false, cases_eq, cases_lt, eq-eqb, ne_eqb, eqb-true}
 use Rattle.system.specs.Literals.{bit}
 
 -- what holds of the digits 0 and 1 holds of any two numbers below 2
@@ -143,3 +144,28 @@ high_bits t v k h =
     let m = mod_below t (2 ^ k) (pow_pos k) in
     let n = pow_mono h in
     bit_above (t % 2 ^ k) v (omega arith)
+
+-- the number has no other bits than from its lowest on
+low_empty : (k x v : ℕ) → Lowest k x v → x % 2 ^ v ≡ 0
+low_empty k x v l = elim (cases_eq (x % 2 ^ v) 0) [ inl e ↦ e | inr n ↦ absurd (none (lowest v (x % 2 ^ v) (omega arith) (mod_below x (2 ^ v) (pow_pos v)))) ]
+  where
+    none : Lowest v (x % 2 ^ v) (count_trailing_zeros v (x % 2 ^ v)) → ⊥
+    none r = true≢false (sym r.is ∙ low_bits x _ v r.small ∙ l.first _ r.small)
+
+-- a number that is more than its lowest bit has another
+pub second : (k x v : ℕ) → x < 2 ^ k → Lowest k x v → (x ≡ 2 ^ v → ⊥) → (j : ℕ) × (v < j) × (bit x j ≡ true)
+second k x v h l more = elim (cases_lt x (2 ^ suc v)) [ inl b ↦ absurd (more (alone b)) | inr g ↦ above (le-div 1 x (2 ^ suc v) (pow_pos (suc v)) (omega arith)) ]
+  where
+    alone : x < 2 ^ suc v → x ≡ 2 ^ v
+    alone b =
+        let p = pow_pos v in
+        let q : x / 2 ^ v < 2 = div_below x (2 ^ v) 2 p (omega (arith, pow-suc 2 v)) in
+        let odd = eqb-true (x / 2 ^ v % 2) 1 l.is in
+        let one : x / 2 ^ v ≡ 1 = omega arith in
+        sym (div-add-mod' x (2 ^ v)) ∙ ap (λ d. d * 2 ^ v + x % 2 ^ v) one ∙ omega (arith, low_empty k x v l)
+
+    above : 1 ≤ x / 2 ^ suc v → (j : ℕ) × (v < j) × (bit x j ≡ true)
+    above r =
+        let b = lowest k (x / 2 ^ suc v) (omega arith) (let d = div-le_self x (2 ^ suc v) in omega arith) in
+        let u = count_trailing_zeros k (x / 2 ^ suc v) in
+        (suc v + u, omega arith, ap (λ y. eqb (y % 2) 1) (sym (shr-shr x (suc v) u)) ∙ b.is)

@@ -66,7 +66,7 @@ impl Trail {
     pub fn advance(&mut self) -> Option<Decision>
         ensures entries { entries self.new ≡ entries self.old }
         ensures assigned { self.new.assigned ≡ self.old.assigned }
-        ensures found { MatchOption result (length (entries self.old) ≤ self.old.done) (λ d. (self.old.done < length (entries self.old)) × (d ≡ slice_index_or (entries self.old) self.old.done d) × (self.new.done ≡ self.old.done + 1)) }
+        ensures found { MatchOption result ((length (entries self.old) ≤ self.old.done) × (self.new.done ≡ self.old.done)) (λ d. (self.old.done < length (entries self.old)) × (d ≡ slice_index_or (entries self.old) self.old.done d) × (self.new.done ≡ self.old.done + 1)) }
     {
         let decision = *self.decisions.get(self.done)?;
         self.done += 1;

@@ -22,7 +22,7 @@ assignments-preserved c =
       ]),
       (λ base given. next_early x t f c.variables-all.type_inv c.without.ensures (λ a. T (clauses a base))
           (i.1 base given)
-          (not_here _ _ base x t f c.unmet.result c.without.ensures c.variables-all.ensures c.unmet.ensures (search rules) given)
+          (not_here _ _ base x t f c.unmet.result c.without.ensures c.variables-all.ensures.all c.unmet.ensures (search rules) given)
           c.in-Some.following q s),
       omega arith,
     )
@@ -53,5 +53,5 @@ returns-in_default c held e =
     let f = c.without.result in
     none_left x t f c.variables-all.type_inv c.without.ensures (λ a. T (clauses a base))
     (c.assignments.invariant.1 base given)
-    (not_here _ _ base x t f c.unmet.result c.without.ensures c.variables-all.ensures c.unmet.ensures (search rules) given)
+    (not_here _ _ base x t f c.unmet.result c.without.ensures c.variables-all.ensures.all c.unmet.ensures (search rules) given)
     c.in_default.ensures)
