@@ -34,8 +34,9 @@ std::vector<Answer> ours(Exported call, const Clauses& held, const Clauses& ques
     std::vector<uint8_t> clauses = spelled(held), asked = spelled(questions);
     std::vector<Reply> replies(questions.size());
     size_t literals = clauses.size() - held.size();
-    if (call(held.size(), literals, clauses.data(), clauses.size(), asked.data(), asked.size(), replies.data(), replies.size()) != 0) {
-        std::fprintf(stderr, "no memory\n");
+    uint32_t code = call(held.size(), literals, clauses.data(), clauses.size(), asked.data(), asked.size(), replies.data(), replies.size());
+    if (code != 0) {
+        std::fprintf(stderr, "nothing was asked: %s\n", code == 1 ? "no memory" : "a clause does not fit");
         std::exit(1);
     }
     std::vector<Answer> answers;
