@@ -1,1 +1,2 @@
-mod Walks
+pub mod Walks
+pub mod Fitting

@@ -2,8 +2,10 @@
 use Rattle.std.proofs.Common.{◌≡◌, ℕ, ◌+◌, ◌<◌, ◌≤◌, ◌⊎◌, List, [], ◌∷◌, length, get_or, drop, set, sym, ap, ◌∙◌, subst, subst₂, inl, inr, arith}
 use Rattle.std.proofs.lemmas.List.{length-drop, get_or-drop, drop-drop, get_or-set_same, get_or-set_other}
 use Rattle.std.proofs.lemmas.Bool.{cases_order}
-use Rattle.std.specs.Prelude.{IsOk, OnOk, Ok, Err, Result}
+use Rattle.std.specs.Prelude.{OnOk, Ok, Err, Result}
 use Rattle.exported.specs.declared.fault.AskFault.{AskFault}
+use Rattle.exported.specs.declared.fault.AskFault.TheVariants.{NoMemory, NoCapacity}
+use Rattle.exported.specs.Codes.{code}
 use Rattle.exported.specs.Replies.{Told}
 use Rattle.exported.specs.declared.reply.Reply.{Reply}
 
@@ -29,7 +31,8 @@ told_more held questions replies n r h before here k e l = go (cases_order k n)
     go (inr (inl q)) = subst (Told held (get_or questions k [])) (sym (get_or-set_other replies n k r e (λ w. let z : ⊥ = omega arith in z))) (before k e q)
     go (inr (inr q)) = absurd (let z : ⊥ = omega arith in z)
 
--- what was asked where no fault is told
-pub all_asked : {P : Type 0} (r : Result (Unit {0}) AskFault) → IsOk r → OnOk r P → P
+-- what was asked where the number says so
+pub all_asked : {P : Type 0} (r : Result (Unit {0}) AskFault) → code r ≡ 0 → OnOk r P → P
 all_asked (Ok x) i p = p
-all_asked (Err f) i p = grind arith
+all_asked (Err NoMemory) i p = absurd (let z : ⊥ = omega arith in z)
+all_asked (Err NoCapacity) i p = absurd (let z : ⊥ = omega arith in z)

@@ -1,8 +1,11 @@
-// Lists in bytes are clauses one after another, each one length byte and then its literals.
-ghost use Rattle.std.specs.Prelude.{◌≡◌, ℕ, List, [], ◌++◌, length, OnOk};
+// Lists in bytes are clauses one after another, each one length byte and then its literals, a byte each: twice the
+// variable, and 1 more where it is negated. A question is spelled as a clause is, and has the literals to assume.
+ghost use Rattle.std.specs.Prelude.{◌≡◌, ℕ, ◌<◌, ◌≤◌, List, [], length, is_ok, IfOk, OnOk, OnErr};
+ghost use Rattle.system.specs.Literals.{size};
 ghost use Rattle.lists.specs.Lists.{clauses_of};
 ghost use Rattle.lists.specs.Spelling.{clauses_in};
 ghost use Rattle.exported.specs.Replies.{Replied};
+ghost use Rattle.exported.specs.Codes.{all_fit, outcome};
 
 use crate::fault::{AskFault, code_of};
 use crate::reply::Reply;
@@ -12,10 +15,13 @@ use propagating::Propagating;
 use solver::{Capacity, NoCapacity, Solver};
 use std::alloc::{AllocError, Global};
 
-// Adds the clauses in order, up to the first that does not fit.
+// Has the solver hold just the clauses, in order, up to the first that does not fit.
+#[tactic(auto, using(crate::proofs::Fitting::loading))]
 fn load<S: Solver>(solver: &mut S, list: ClauseList) -> Result<(), NoCapacity>
-    ensures { OnOk result (S.Solver.held solver.new ≡ S.Solver.held solver.old ++ clauses_of list.entry) }
+    ensures held { OnOk result (S.Solver.held solver.new ≡ clauses_of list.entry) }
+    ensures test { is_ok result ≡ all_fit (clauses_of list.entry) (S.Solver.capacity solver.old) }
 {
+    solver.wipe();
     for clause in list {
         solver.add(clause)?;
     }
@@ -43,19 +49,28 @@ fn asked<S: Solver + Drop>(
     questions: &[u8],
     replies: &mut [Reply],
 ) -> Result<(), AskFault>
-    ensures { OnOk result (Replied (clauses_of held.entry) (clauses_in (length replies.old) questions.now) replies.new) }
+    ensures replied { OnOk result (Replied (clauses_of held.entry) (clauses_in (length replies.old) questions.now) replies.new) }
+    ensures outcome { IfOk made (λ s. result ≡ outcome (clauses_of held.entry) (S.Solver.capacity s)) }
+    ensures memory { OnErr made (result ≡ Err AskFault.NoMemory) }
 {
     let mut solver = made?;
-    solver.wipe();
     load(&mut solver, held)?;
     let count = replies.len();
     ask(&mut solver, ClauseList::over(count, questions), replies);
     Ok(())
 }
 
-// The answers of a propagating solver with room for so many clauses and literals that holds so many clauses of a list, to
-// the questions of another, one for each reply. It is 0 where all was asked, and else 1 without memory and 2 where a
-// clause did not fit; it stays a number, since C reads it.
+// Has a propagating solver hold clauses, with room for `clauses` of them and for `literals` literals together, and
+// answers a question about them for each reply.
+//
+// Exactly `clauses` clauses are read from the bytes of `held`, and bytes beyond them are ignored. As many questions are
+// read from the bytes of `questions` as there are replies. A clause or a question that the bytes no longer have is read
+// as the empty one, and one that they have only in part as that part. The empty clause is never true, and the empty
+// question assumes nothing.
+//
+// The result is 0 where each question has its reply, 1 where there was no memory, and 2 where the clauses have more
+// literals than there is room for. After 1 or 2 the replies mean nothing. It stays a number, since C reads it.
+#[tactic(auto, using(crate::proofs::Fitting::filling))]
 #[unsafe(no_mangle)]
 pub extern "C" fn hokhnebi_propagating(
     heap: Global,
@@ -65,13 +80,17 @@ pub extern "C" fn hokhnebi_propagating(
     questions: &[u8],
     replies: &mut [Reply],
 ) -> u32
-    ensures { result ≡ 0 → Replied (clauses_in clauses held.now) (clauses_in (length replies.old) questions.now) replies.new }
+    ensures replied { result ≡ 0 → Replied (clauses_in clauses held.now) (clauses_in (length replies.old) questions.now) replies.new }
+    ensures fit { result ≡ 0 → size (clauses_in clauses held.now) ≤ literals }
+    ensures full { result ≡ 2 → literals < size (clauses_in clauses held.now) }
+    ensures code { result ≤ 2 }
 {
     let made = Propagating::new(heap, Capacity { clauses, literals });
     code_of(asked(made, ClauseList::over(clauses, held), questions, replies))
 }
 
-// The same of a counting solver. The two stay beside one another, since C calls each by its name.
+// The same with a counting solver. The two stay beside one another, since C calls each by its name.
+#[tactic(auto, using(crate::proofs::Fitting::filling))]
 #[unsafe(no_mangle)]
 pub extern "C" fn hokhnebi_counting(
     heap: Global,
@@ -81,7 +100,10 @@ pub extern "C" fn hokhnebi_counting(
     questions: &[u8],
     replies: &mut [Reply],
 ) -> u32
-    ensures { result ≡ 0 → Replied (clauses_in clauses held.now) (clauses_in (length replies.old) questions.now) replies.new }
+    ensures replied { result ≡ 0 → Replied (clauses_in clauses held.now) (clauses_in (length replies.old) questions.now) replies.new }
+    ensures fit { result ≡ 0 → size (clauses_in clauses held.now) ≤ literals }
+    ensures full { result ≡ 2 → literals < size (clauses_in clauses held.now) }
+    ensures code { result ≤ 2 }
 {
     let made = Counting::new(heap, Capacity { clauses, literals });
     code_of(asked(made, ClauseList::over(clauses, held), questions, replies))

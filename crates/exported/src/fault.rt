@@ -1,10 +1,12 @@
 // Why nothing was asked, and the number of it for C.
-ghost use Rattle.std.specs.Prelude.{◌≡◌, IsOk};
+ghost use Rattle.std.specs.Prelude.{◌≡◌};
+ghost use Rattle.exported.specs.declared.fault.AskFault.TheVariants.{NoMemory, NoCapacity};
+ghost use Rattle.exported.specs.Codes.{code};
 
 use solver::NoCapacity;
 use std::alloc::AllocError;
 
-// There was no memory, or a clause did not fit.
+// There was no memory, or the clauses did not all fit.
 #[derive(Clone, Copy, PartialEq, Eq, Debug)]
 pub(crate) enum AskFault {
     NoMemory,
@@ -12,20 +14,25 @@ pub(crate) enum AskFault {
 }
 
 impl From<AllocError> for AskFault {
+    ghost from_gives = { λ _ fault. fault ≡ NoMemory };
+
     fn from(_error: AllocError) -> AskFault {
         AskFault::NoMemory
     }
 }
 
 impl From<NoCapacity> for AskFault {
+    ghost from_gives = { λ _ fault. fault ≡ NoCapacity };
+
     fn from(_error: NoCapacity) -> AskFault {
         AskFault::NoCapacity
     }
 }
 
-// What the calls answer to C: 0 where all was asked. It stays a function: no From leads from a result to a number.
+// What the calls answer to C: 0 where all was asked, 1 without memory, and 2 where the clauses did not all fit. It
+// stays a function: no From leads from a result to a number.
 pub(crate) fn code_of(asked: Result<(), AskFault>) -> u32
-    ensures { result ≡ 0 → IsOk asked }
+    ensures { result ≡ code asked }
 {
     match asked {
         Ok(()) => 0,
