@@ -1,5 +1,5 @@
-// Both solvers over all 128 variables. The counting one goes through the assignments in their order, so it is asked only
-// what an early one answers.
+// Both solvers over all 128 variables. Where more than one valuation serves, both give the first, the lowest variable slowest
+// and false first. The counting one goes through them in this order, so it is asked only what an early one answers.
 use counting::Counting;
 use propagating::Propagating;
 use solver::{Answer, Capacity, NoCapacity, Solver};
