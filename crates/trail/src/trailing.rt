@@ -89,7 +89,7 @@ impl Trail {
     }
 
     // Lets go of all decisions behind the entry and changes that one in its place, where the variable has no value before it.
-    // It was not handed out then.
+    // The changed entry counts as not handed out.
     pub fn change(&mut self, at: usize, literal: Literal, forcing: Forcing)
         ensures entries { Changed (entries self.old) at literal.variable literal.value forcing (entries self.new) }
         ensures done { at < length (entries self.old) → literal.variable < 128 → Free (take at (entries self.old)) literal.variable → self.new.done ≤ at }

@@ -2,7 +2,6 @@
 use counting::Counting;
 use propagating::Propagating;
 use solver::{Answer, Capacity, Solver};
-use std::alloc::{AllocError, Global};
 use std::test::Fail;
 
 // What is asked of a solver.
@@ -14,8 +13,8 @@ enum Call {
     Ask(&'static [u8]),
 }
 
-// What it says: that it is done or has no capacity, or an answer. All models below are the only ones, where the variables
-// that do not occur are false.
+// What it says: that it is done or has no capacity, or an answer. Each model below is the only one that leaves false what does
+// not occur.
 #[derive(Clone, Copy, PartialEq, Eq, Debug)]
 enum Said {
     Done,

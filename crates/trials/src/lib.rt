@@ -1,6 +1,6 @@
 // Cases at the limits of the format, run: tables of changed bytes with the refusal that each must bring. The expected
-// values are worked out by hand from the description of the format, not from the code. And both solvers at the edges of what
-// they hold and of the variables that there are.
+// values are worked out by hand from the description of the format, not from the code. And tables of calls for both solvers, at
+// the edges of what they hold and of the variables that there are.
 #![tactic(auto)]
 
 #[cfg(test)]
