@@ -1,3 +1,4 @@
 pub mod Truth
 pub mod Runs
 pub mod Bits
+pub mod Spelled

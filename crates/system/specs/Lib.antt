@@ -1,3 +1,4 @@
 pub mod Literals
 pub mod Systems
 pub mod Laws
+pub mod Spelling
