@@ -2,3 +2,5 @@ pub mod Truth
 pub mod Runs
 pub mod Bits
 pub mod Spelled
+pub mod Numbers
+pub mod Preserving

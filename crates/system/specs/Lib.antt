@@ -2,3 +2,4 @@ pub mod Literals
 pub mod Systems
 pub mod Laws
 pub mod Spelling
+pub mod Preserving
