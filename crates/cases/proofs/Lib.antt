@@ -1,2 +1,3 @@
 pub mod Promises
 pub mod Places
+pub mod Steps

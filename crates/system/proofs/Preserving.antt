@@ -1,10 +1,10 @@
 -- Clauses that a system's step clauses preserve are those of which consecution holds. Assumes nothing.
-use Rattle.std.proofs.Common.{◌≡◌, ℕ, ◌+◌, ◌-◌, ◌<◌, ◌≤◌, ◌&&◌, ◌||◌, T, ◌⊎◌, List, ◌++◌, sym, subst, ◌∙◌, inl, inr, arith, nat_lt, nat_le}
+use Rattle.std.proofs.Common.{◌≡◌, ℕ, ◌+◌, ◌-◌, ◌<◌, ◌≤◌, ◌&&◌, ◌||◌, T, ◌⊎◌, ◌↔◌, List, [], ◌∷◌, ◌++◌, sym, subst, ◌∙◌, inl, inr, arith, nat_lt, nat_le}
 use Rattle.std.specs.List.{AllByRecursion}
 use Rattle.std.proofs.lemmas.Bool.{lt-ltb, le-ltb, ltb-true, leb-true}
 use Rattle.system.specs.Literals.{Valuation, bit, variable_of, clauses, OccursAmong}
 use Rattle.system.specs.Systems.{System, Step, step_bits, Consecution, OverRelays, OverVariables, is_variable}
-use Rattle.system.specs.Preserving.{after, Preserved, StepFormed, PreservedIsConsecution}
+use Rattle.system.specs.Preserving.{after, Preserved, StepFormed, PreservedIsConsecution, loaded, met}
 use Rattle.system.proofs.Truth.{T_true, and_l, and_r, or_e, member_all, clauses_same, clauses_parts, clauses_append}
 use Rattle.system.proofs.Numbers.{number, bit_number, number_below}
 
@@ -107,3 +107,14 @@ preserved_is_consecution c more cs formed over_more over_cs = (to, from)
         subst T (relays_same c.n (bit (next c formed a)) (after a) cs over_cs (λ v l. bit_number c.n (after a) v l))
         (h (state c formed a) (next c formed a) (subst T (relays_same c.n a (bit (state c formed a)) more over_more before) parts.1)
         (subst T (relays_same c.n a (bit (state c formed a)) cs over_cs before) p) (step_of c formed a parts.0))
+
+-- what holds of each of two lists holds of each of both
+all_append : {A : Type 0} (P : A → Type 0) (xs ys : List A) → AllByRecursion P xs → AllByRecursion P ys → AllByRecursion P (xs ++ ys)
+all_append P [] ys h k = k
+all_append P (x ∷ xs) ys h k = (h.0, all_append P xs ys h.1 k)
+
+-- where a solver holds a system and further clauses
+pub loaded_is_consecution : (c : System) (more cs : List (List ℕ)) → StepFormed c → AllByRecursion (OverRelays c.n) c.safety
+    → AllByRecursion (OverRelays c.n) more → AllByRecursion (OverRelays c.n) cs → Preserved (loaded c more) cs ↔ Consecution c (met c more) (λ s. clauses (bit s) cs)
+loaded_is_consecution c more cs formed safety over_more over_cs =
+    preserved_is_consecution c (c.safety ++ more) cs formed (all_append (OverRelays c.n) c.safety more safety over_more) over_cs

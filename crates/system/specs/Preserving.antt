@@ -1,5 +1,5 @@
 -- Clauses over relays that steps preserve, where a list of clauses over the variables of a step says which steps there are.
-use Rattle.std.specs.Prelude.{ℕ, ◌+◌, ◌≤◌, T, ◌↔◌, List, ◌++◌}
+use Rattle.std.specs.Prelude.{ℕ, ◌+◌, ◌≤◌, Bool, T, ◌↔◌, List, ◌++◌}
 use Rattle.std.specs.List.{AllByRecursion}
 use Rattle.system.specs.Literals.{Valuation, bit, clauses}
 use Rattle.system.specs.Systems.{System, OverRelays, OverVariables, Consecution}
@@ -24,3 +24,11 @@ abbrev pub PreservedIsConsecution : Type 0
 PreservedIsConsecution =
     (c : System) (more cs : List (List ℕ)) → StepFormed c → AllByRecursion (OverRelays c.n) more → AllByRecursion (OverRelays c.n) cs
     → Preserved (c.step ++ more) cs ↔ Consecution c (λ s. clauses (bit s) more) (λ s. clauses (bit s) cs)
+
+-- what a solver holds of a system and of further clauses over relays before a step: step clauses, safety clauses, and these
+abbrev pub loaded : System → List (List ℕ) → List (List ℕ)
+loaded c more = c.step ++ (c.safety ++ more)
+
+-- a state meets the safety clauses and the further ones
+abbrev pub met : System → List (List ℕ) → ℕ → Bool
+met c more s = clauses (bit s) (c.safety ++ more)
