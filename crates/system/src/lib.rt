@@ -1,11 +1,15 @@
-// Transition systems over relays. What a literal, a clause, a state, a step and a run are stands in specs/; here are the
-// one test of a literal that code shares, and the laws that every layer above rests on.
+// Transition systems over relays. What a literal, a clause, a state, a step and a run are stands in specs/; here is what
+// code shares on literals, clauses and states, and the laws that every layer above rests on.
 #![tactic(auto)]
 
 ghost use Rattle.std.specs.Prelude.{◌≡◌};
 ghost use Rattle.system.specs.Literals.{variable_of};
 ghost use Rattle.system.specs.Laws.{TruthByOccurring, RunPrefix, InductiveReached, SafeWhenReached};
 ghost use Rattle.system.specs.Preserving.{PreservedIsConsecution};
+
+mod states;
+
+pub use states::{is_on, is_true, literal_of};
 
 // The variable that a literal byte is about.
 pub fn variable(literal: u8) -> u8
