@@ -13,7 +13,7 @@ all_first P Q (x ∷ xs) h = (h.0.0, all_first P Q xs h.1)
 
 module _ (c : System) (a : Admitted c) where
   pub step_formed : StepFormed c
-  step_formed = record { relays = a.relays.1; inputs = a.inputs; over = all_first (OverVariables c.n c.m) Rising c.step a.step_clauses }
+  step_formed = record { relays = a.relays.1; over = all_first (OverVariables c.n c.m) Rising c.step a.step_clauses }
 
   pub admitted_consecution : (more cs : List (List ℕ)) → AllByRecursion (OverRelays c.n) more → AllByRecursion (OverRelays c.n) cs
       → Preserved (loaded c more) cs ↔ Consecution c (met c more) (λ s. clauses (bit s) cs)

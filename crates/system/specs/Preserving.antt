@@ -12,10 +12,9 @@ after a v = a (32 + v)
 abbrev pub Preserved : List (List ℕ) → List (List ℕ) → Type 0
 Preserved held cs = (a : Valuation) → T (clauses a held) → T (clauses a cs) → T (clauses (after a) cs)
 
--- the step clauses of a system are about its variables, of which each has its number
+-- the relays of a system have their numbers before and after a step, and its step clauses are about its variables
 pub record StepFormed (c : System) : Type 0 where
   pub relays : c.n ≤ 32
-  pub inputs : c.m ≤ 64
   pub over : AllByRecursion (OverVariables c.n c.m) c.step
 
 -- where the held clauses are the step clauses of a system and more over relays before a step, the clauses that are
