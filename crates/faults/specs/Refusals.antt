@@ -9,7 +9,7 @@ use Rattle.faults.specs.declared.case.CaseFault.TheVariants.{Short, Relays, Inpu
 use Rattle.faults.specs.declared.case.ListName.{ListName}
 use Rattle.faults.specs.declared.case.ListName.TheVariants.{Start, Step, Safety}
 use Rattle.faults.specs.declared.work.WorkFault.{WorkFault}
-use Rattle.faults.specs.declared.work.WorkFault.TheVariants.{InCase, InCandidates, TooManyCandidates, NoSuchClause}
+use Rattle.faults.specs.declared.work.WorkFault.TheVariants.{InCase, InCandidates, TooManyCandidates, NoSuchClause, Marks, NoCapacity}
 
 -- layer, number and place as text, with a space between
 abbrev pub told : Refusal → List ℕ
@@ -47,3 +47,5 @@ work_refusal (InCase fault) = case_refusal fault
 work_refusal (InCandidates fault) = clause_refusal fault
 work_refusal (TooManyCandidates at) = record { layer = 3; number = 21; place = at }
 work_refusal (NoSuchClause given) = record { layer = 3; number = 31; place = given }
+work_refusal (Marks at) = record { layer = 3; number = 33; place = at }
+work_refusal NoCapacity = record { layer = 3; number = 45; place = 0 }

@@ -8,13 +8,16 @@ use crate::fault::Fault;
 use crate::refusal::Refusal;
 
 // A fault of the case, a fault inside a candidate clause, one candidate too many (with the index of its length byte),
-// or no clause of the number that was given.
+// no clause of the number that was given, marks of the wrong number (with 0) or one that is neither 0 nor 1 (with its
+// number), or a solver with too little capacity.
 #[derive(Clone, Copy, PartialEq, Eq, Debug)]
 pub enum WorkFault {
     InCase(CaseFault),
     InCandidates(ClauseFault),
     TooManyCandidates(usize),
     NoSuchClause(usize),
+    Marks(usize),
+    NoCapacity,
 }
 
 impl From<CaseFault> for WorkFault {
@@ -44,6 +47,8 @@ impl Fault for WorkFault {
             WorkFault::InCandidates(fault) => fault.refusal(),
             WorkFault::TooManyCandidates(at) => Refusal::new(3, 21, *at),
             WorkFault::NoSuchClause(given) => Refusal::new(3, 31, *given),
+            WorkFault::Marks(at) => Refusal::new(3, 33, *at),
+            WorkFault::NoCapacity => Refusal::new(3, 45, 0),
         }
     }
 }
