@@ -1,0 +1,39 @@
+// What is checked before a sifting: the marks, then the spare capacity of the solver.
+ghost use Rattle.std.specs.Prelude.{◌≡◌};
+ghost use Rattle.faults.specs.Firsts.{unless};
+ghost use Rattle.sieve.specs.Sieves.{marks_fault, sift_fault};
+
+use faults::WorkFault;
+use solver::{Capacity, Solver};
+
+fn check_marks(places: usize, marks: &[u8]) -> Result<(), WorkFault>
+    ensures { result ≡ unless (marks_fault places marks.now) tt }
+{
+    if marks.len() != places {
+        return Err(WorkFault::Marks(0));
+    }
+    for (i, mark) in marks.iter().enumerate() {
+        if *mark > 1 {
+            return Err(WorkFault::Marks(i));
+        }
+    }
+    Ok(())
+}
+
+// Whether the marks of so many places can be sifted with so much spare capacity.
+pub fn check<S: Solver>(
+    places: usize,
+    need: Capacity,
+    solver: &S,
+    marks: &[u8],
+) -> Result<(), WorkFault>
+    ensures { result ≡ unless (sift_fault places need (S.Solver.held solver.now) (S.Solver.capacity solver.now) marks.now) tt }
+{
+    check_marks(places, marks)?;
+    let spare_clauses = solver.clause_capacity() - solver.clauses_held();
+    let spare_literals = solver.literal_capacity() - solver.literals_held();
+    if spare_clauses < need.clauses || spare_literals < need.literals {
+        return Err(WorkFault::NoCapacity);
+    }
+    Ok(())
+}
