@@ -1,7 +1,8 @@
 // What is checked before a sifting: the marks, then the spare capacity of the solver.
 ghost use Rattle.std.specs.Prelude.{◌≡◌};
-ghost use Rattle.faults.specs.Firsts.{unless};
-ghost use Rattle.sieve.specs.Sieves.{marks_fault, sift_fault};
+ghost use Rattle.faults.specs.Firsts.{unmet, unless};
+ghost use Rattle.faults.specs.declared.work.WorkFault.TheVariants.{NoCapacity};
+ghost use Rattle.sieve.specs.Sieves.{marks_fault, sift_fault, spare};
 
 use faults::WorkFault;
 use solver::{Capacity, Solver};
@@ -20,7 +21,18 @@ fn check_marks(places: usize, marks: &[u8]) -> Result<(), WorkFault>
     Ok(())
 }
 
-// Whether the marks of so many places can be sifted with so much spare capacity.
+fn check_spare<S: Solver>(need: Capacity, solver: &S) -> Result<(), WorkFault>
+    ensures { result ≡ unless (unmet (spare need (S.Solver.held solver.now) (S.Solver.capacity solver.now)) NoCapacity) tt }
+{
+    let spare_clauses = solver.clause_capacity() - solver.clauses_held();
+    let spare_literals = solver.literal_capacity() - solver.literals_held();
+    if spare_clauses < need.clauses || spare_literals < need.literals {
+        return Err(WorkFault::NoCapacity);
+    }
+    Ok(())
+}
+
+// Whether marks for so many places can be sifted where that spare capacity is needed: first the marks, then the solver.
 pub fn check<S: Solver>(
     places: usize,
     need: Capacity,
@@ -30,10 +42,5 @@ pub fn check<S: Solver>(
     ensures { result ≡ unless (sift_fault places need (S.Solver.held solver.now) (S.Solver.capacity solver.now) marks.now) tt }
 {
     check_marks(places, marks)?;
-    let spare_clauses = solver.clause_capacity() - solver.clauses_held();
-    let spare_literals = solver.literal_capacity() - solver.literals_held();
-    if spare_clauses < need.clauses || spare_literals < need.literals {
-        return Err(WorkFault::NoCapacity);
-    }
-    Ok(())
+    check_spare(need, solver)
 }

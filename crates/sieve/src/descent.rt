@@ -21,10 +21,11 @@ pub fn descend<V: Sieve, S: Solver>(
     ensures held { S.Solver.held solver.new ≡ S.Solver.held solver.old }
     ensures capacity { S.Solver.capacity solver.new ≡ S.Solver.capacity solver.old }
 {
-    loop {
+    'sifting: loop {
         match sieve.sift(solver, marks)? {
-            Sifting::Closed => return Ok(()),
+            Sifting::Closed => break 'sifting,
             Sifting::Fewer => {}
         }
     }
+    Ok(())
 }
