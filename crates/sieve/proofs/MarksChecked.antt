@@ -7,7 +7,8 @@ use Rattle.faults.proofs.Firsts.{or_none, unmet_none}
 use Rattle.faults.specs.declared.work.WorkFault.TheVariants.{Marks as BadMarks, NoCapacity}
 use Rattle.solver.specs.declared.capacity.Capacity.{Capacity}
 use Rattle.sieve.specs.Marks.{Marks}
-use Rattle.sieve.specs.Sieves.{bad_mark, marks_fault, spare, sift_fault}
+use Rattle.solver.specs.Answers.{spare}
+use Rattle.sieve.specs.Sieves.{bad_mark, marks_fault, sift_fault}
 
 -- one mark on: it is 0 or 1, or it is the first that is not
 pub mark_passed : (M : List ℕ) (i : ℕ) → i < length M → get_or M i 0 ≤ 1 → bad_mark i (drop i M) ≡ bad_mark (i + 1) (drop (i + 1) M)

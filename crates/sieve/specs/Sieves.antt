@@ -1,6 +1,6 @@
 -- What sifting and the descent give at every input, for any family of closed sets.
-use Rattle.std.specs.Prelude.{◌≡◌, ℕ, suc, ◌+◌, Bool, ◌&&◌, List, [], ◌∷◌, length, Some, None, Ok, Err, Option, Result, ◌==◌, nat_lt, nat_le}
-use Rattle.system.specs.Literals.{size}
+use Rattle.std.specs.Prelude.{◌≡◌, ℕ, suc, List, [], ◌∷◌, length, Some, None, Ok, Err, Option, Result, ◌==◌, nat_lt}
+use Rattle.solver.specs.Answers.{spare}
 use Rattle.solver.specs.declared.capacity.Capacity.{Capacity}
 use Rattle.faults.specs.Firsts.{unmet, or_else}
 use Rattle.faults.specs.declared.work.WorkFault.{WorkFault}
@@ -17,10 +17,6 @@ bad_mark i (x ∷ M) = or_else (unmet (nat_lt x 2) (Marks i)) (bad_mark (suc i) 
 -- the fault of marks for so many places: a wrong number of them, or the first that is neither 0 nor 1
 abbrev pub marks_fault : ℕ → List ℕ → Option WorkFault
 marks_fault places M = or_else (unmet (length M == places) (Marks 0)) (bad_mark 0 M)
-
--- so many clauses and literals can be added to those that a solver holds
-abbrev pub spare : Capacity → List (List ℕ) → Capacity → Bool
-spare need held capacity = nat_le (length held + need.clauses) capacity.clauses && nat_le (size held + need.literals) capacity.literals
 
 -- why marks cannot be sifted: first the marks, then the spare capacity
 abbrev pub sift_fault : ℕ → Capacity → List (List ℕ) → Capacity → List ℕ → Option WorkFault

@@ -2,10 +2,11 @@
 ghost use Rattle.std.specs.Prelude.{◌≡◌};
 ghost use Rattle.faults.specs.Firsts.{unmet, unless};
 ghost use Rattle.faults.specs.declared.work.WorkFault.TheVariants.{NoCapacity};
-ghost use Rattle.sieve.specs.Sieves.{marks_fault, sift_fault, spare};
+ghost use Rattle.solver.specs.Answers.{spare};
+ghost use Rattle.sieve.specs.Sieves.{marks_fault, sift_fault};
 
 use faults::WorkFault;
-use solver::{Capacity, Solver};
+use solver::{Capacity, Solver, has_spare};
 
 fn check_marks(places: usize, marks: &[u8]) -> Result<(), WorkFault>
     ensures { result ≡ unless (marks_fault places marks.now) tt }
@@ -24,9 +25,7 @@ fn check_marks(places: usize, marks: &[u8]) -> Result<(), WorkFault>
 fn check_spare<S: Solver>(need: Capacity, solver: &S) -> Result<(), WorkFault>
     ensures { result ≡ unless (unmet (spare need (S.Solver.held solver.now) (S.Solver.capacity solver.now)) NoCapacity) tt }
 {
-    let spare_clauses = solver.clause_capacity() - solver.clauses_held();
-    let spare_literals = solver.literal_capacity() - solver.literals_held();
-    if spare_clauses < need.clauses || spare_literals < need.literals {
+    if !has_spare(solver, need) {
         return Err(WorkFault::NoCapacity);
     }
     Ok(())

@@ -31,6 +31,13 @@ is_yes No = false
 abbrev pub fits : List (List ℕ) → List ℕ → Capacity → Bool
 fits held c capacity = nat_lt (length held) capacity.clauses && nat_le (size held + length c) capacity.literals
 
+-- the capacity that clauses take, and whether so much is left beside the held ones
+abbrev pub need_of : List (List ℕ) → Capacity
+need_of cs = record { clauses = length cs; literals = size cs }
+
+abbrev pub spare : Capacity → List (List ℕ) → Capacity → Bool
+spare need held capacity = nat_le (length held + need.clauses) capacity.clauses && nat_le (size held + need.literals) capacity.literals
+
 -- the answer where just one clause is held, or none where it does not fit
 abbrev pub AloneAnswered : List ℕ → Capacity → Option Answer → Type 0
 AloneAnswered c capacity None = fits [] c capacity ≡ false

@@ -10,10 +10,12 @@ ghost use Rattle.solver.specs.declared.capacity.Capacity.{Capacity};
 mod answer;
 mod capacity;
 mod smallest;
+mod spare;
 
 pub use answer::Answer;
 pub use capacity::{Capacity, NoCapacity};
 pub use smallest::{Smallest, laws, smallest_questions};
+pub use spare::has_spare;
 
 // What an implementer shows. A solver means the list that it holds and its two capacities; every function says what
 // becomes of them.
