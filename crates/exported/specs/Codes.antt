@@ -1,17 +1,13 @@
 -- What asking comes to, and its number for C.
-use Rattle.std.specs.Prelude.{ℕ, ◌&&◌, Bool, List, length, nat_le, Result, Ok, Err, if◌then◌else◌}
-use Rattle.system.specs.Literals.{size}
+use Rattle.std.specs.Prelude.{ℕ, List, [], Result, Ok, Err, if◌then◌else◌}
+use Rattle.solver.specs.Answers.{need_of, spare}
 use Rattle.solver.specs.declared.capacity.Capacity.{Capacity}
 use Rattle.exported.specs.declared.fault.AskFault.{AskFault}
 use Rattle.exported.specs.declared.fault.AskFault.TheVariants.{NoMemory, NoCapacity}
 
--- whether the clauses are within both capacities
-abbrev pub all_fit : List (List ℕ) → Capacity → Bool
-all_fit held capacity = nat_le (length held) capacity.clauses && nat_le (size held) capacity.literals
-
 -- with a solver of this capacity, all is asked where the clauses fit, and else nothing
 abbrev pub outcome : List (List ℕ) → Capacity → Result (Unit {0}) AskFault
-outcome held capacity = if all_fit held capacity then Ok tt else Err NoCapacity
+outcome held capacity = if spare (need_of held) [] capacity then Ok tt else Err NoCapacity
 
 -- the number of what it comes to
 abbrev pub code : Result (Unit {0}) AskFault → ℕ

@@ -5,27 +5,25 @@ ghost use Rattle.system.specs.Literals.{size};
 ghost use Rattle.lists.specs.Lists.{clauses_of};
 ghost use Rattle.lists.specs.Spelling.{clauses_in};
 ghost use Rattle.exported.specs.Replies.{Replied};
-ghost use Rattle.exported.specs.Codes.{all_fit, outcome};
+ghost use Rattle.solver.specs.Answers.{need_of, spare};
+ghost use Rattle.exported.specs.Codes.{outcome};
 
 use crate::fault::{AskFault, code_of};
 use crate::reply::Reply;
 use counting::Counting;
 use lists::ClauseList;
+use loading::add_all;
 use propagating::Propagating;
 use solver::{Capacity, NoCapacity, Solver};
 use std::alloc::{AllocError, Global};
 
-// Has the solver hold just the clauses, in order, up to the first that does not fit.
-#[tactic(auto, using(crate::proofs::Fitting::loading))]
+// Has the solver hold just the clauses, or says that they do not all fit.
 fn load<S: Solver>(solver: &mut S, list: ClauseList) -> Result<(), NoCapacity>
     ensures held { OnOk result (S.Solver.held solver.new ≡ clauses_of list.entry) }
-    ensures test { is_ok result ≡ all_fit (clauses_of list.entry) (S.Solver.capacity solver.old) }
+    ensures test { is_ok result ≡ spare (need_of (clauses_of list.entry)) [] (S.Solver.capacity solver.old) }
 {
     solver.wipe();
-    for clause in list {
-        solver.add(clause)?;
-    }
-    Ok(())
+    add_all(solver, list)
 }
 
 // Asks one question for each reply.
