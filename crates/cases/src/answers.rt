@@ -27,10 +27,11 @@ impl Case {
         self.bytes.as_slice()
     }
 
-    // How many relays the system has.
+    // How many relays the system has, which is an admitted one.
     #[tactic(auto, using(crate::proofs::Places::header_says))]
     pub fn relays(&self) -> u32
-        ensures { result ≡ self.now.n }
+        ensures value { result ≡ self.now.n }
+        ensures admitted { Admitted self.now }
     {
         read_field(self.bytes(), 0)
     }
