@@ -1,0 +1,3 @@
+pub mod Consecution
+pub mod Written
+pub mod Asked
