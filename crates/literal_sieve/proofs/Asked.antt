@@ -17,7 +17,8 @@ use Rattle.faults.specs.Firsts.{unless}
 use Rattle.faults.proofs.Firsts.{unless_ok}
 use Rattle.faults.specs.declared.work.WorkFault.{WorkFault}
 use Rattle.sieve.specs.Marks.{marked, Marks, Within, Reduced}
-use Rattle.sieve.specs.Sieves.{spare, sift_fault, Sifted}
+use Rattle.solver.specs.Answers.{spare}
+use Rattle.sieve.specs.Sieves.{sift_fault, Sifted}
 use Rattle.sieve.specs.declared.sifting.Sifting.TheVariants.{Closed, Fewer}
 use Rattle.sieve.proofs.Marked.{small, all_small, marked_is, is_marked, marked_below}
 use Rattle.sieve.proofs.MarksChecked.{sift_marks, sift_spare}

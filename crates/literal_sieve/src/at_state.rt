@@ -39,8 +39,6 @@ impl LiteralSieve {
         ensures value { result ≡ record { n = case.now.n; state = state } }
         ensures consecution { ClosedIsConsecution case.now state (⟦<LiteralSieve as Sieve>⟧.closed result) }
     {
-        // kept for what it ensures: the bytes spell an admitted system, on which this contract rests
-        let _ = case.bytes();
         let relays = case.relays();
         LiteralSieve { relays, state }
     }

@@ -5,5 +5,5 @@ use Rattle.literal_sieve.proofs.at_state.LiteralSieve.new.Goals as goal
 
 pub returns-clause-consecution : goal.returns-clause-consecution
 returns-clause-consecution c =
-    let told = closed_is_consecution c.args.case.now c.args.state (admitted_consecution c.args.case.now c.bytes.ensures.admitted) in
-    rw c.relays-relays.ensures (search rules)
+    let told = closed_is_consecution c.args.case.now c.args.state (admitted_consecution c.args.case.now c.relays-relays.ensures.admitted) in
+    rw c.relays-relays.ensures.value (search rules)
