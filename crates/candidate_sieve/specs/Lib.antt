@@ -1,0 +1,4 @@
+pub mod Candidates
+pub mod Laws
+pub mod Questions
+pub mod Read

@@ -1,0 +1,54 @@
+// Sifting candidates: a place is a candidate, and marks are closed where the marked candidates, all met with the held
+// clauses before a step, are all true after it.
+ghost use Rattle.std.specs.Prelude.{◌≡◌, length};
+ghost use Rattle.system.specs.Literals.{size};
+ghost use Rattle.candidate_sieve.specs.Candidates.{Closed};
+ghost use Rattle.candidate_sieve.specs.Laws.{closed_none, closed_union};
+
+use crate::candidates::CandidateSieve;
+use crate::questions::{add_marked, find_broken, settle};
+use faults::WorkFault;
+use sieve::{Sieve, Sifting, check};
+use solver::{Capacity, Solver};
+
+impl<'a> Sieve for CandidateSieve<'a> {
+    const MOST: usize = 512;
+
+    ghost limit = { 512 };
+
+    ghost places = { λ s. length s };
+
+    ghost closed = { Closed };
+
+    ghost need = { λ s. record { clauses = length s; literals = size s } };
+
+    fn limit() -> usize
+        ensures { result ≡ 512 }
+    {
+        Self::MOST
+    }
+
+    fn places(&self) -> usize {
+        self.list.len()
+    }
+
+    fn need(&self) -> Capacity {
+        Capacity {
+            clauses: self.list.len(),
+            literals: self.list.literals(),
+        }
+    }
+
+    fn sift<S: Solver>(&self, solver: &mut S, marks: &mut [u8]) -> Result<Sifting, WorkFault> {
+        check(self.places(), self.need(), solver, marks)?;
+        let held = solver.clauses_held();
+        add_marked(solver, self.list, marks);
+        let broken = find_broken(solver, self.list, marks);
+        solver.cut(held);
+        Ok(settle(self.list, broken, marks))
+    }
+
+    ghost none_closed = { closed_none };
+
+    ghost union_closed = { closed_union };
+}
