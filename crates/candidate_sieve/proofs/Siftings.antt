@@ -12,7 +12,8 @@ use Rattle.sieve.specs.Marks.{Reduced}
 use Rattle.sieve.specs.Sieves.{sift_fault, Sifted}
 use Rattle.sieve.specs.declared.sifting.Sifting.{Sifting}
 use Rattle.sieve.proofs.MarksChecked.{sift_marks}
-use Rattle.candidate_sieve.specs.Candidates.{Formed, chosen, need_of, Closed}
+use Rattle.solver.specs.Answers.{need_of}
+use Rattle.candidate_sieve.specs.Candidates.{Formed, chosen, Closed}
 use Rattle.candidate_sieve.specs.Questions.{Breaks, Broken, unmarked, Settled}
 use Rattle.candidate_sieve.proofs.Unmarking.{unmarked_reduced}
 

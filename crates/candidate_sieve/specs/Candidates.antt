@@ -1,9 +1,7 @@
 -- Candidates, those of them that are marked, and when marks are closed.
-use Rattle.std.specs.Prelude.{ℕ, cond, List, [], ◌∷◌, length, ◌==◌}
-use Rattle.system.specs.Literals.{size}
+use Rattle.std.specs.Prelude.{ℕ, cond, List, [], ◌∷◌, ◌==◌}
 use Rattle.system.specs.Systems.{OverRelays, Rising}
 use Rattle.system.specs.Preserving.{Preserved}
-use Rattle.solver.specs.declared.capacity.Capacity.{Capacity}
 
 -- a clause over relays before a step, in which they rise
 abbrev pub Formed : List ℕ → Type 0
@@ -18,7 +16,3 @@ chosen (x ∷ M) (c ∷ cs) = cond (x == 1) (c ∷ chosen M cs) (chosen M cs)
 -- the marked ones, all met with the held clauses before a step, are all true after it
 abbrev pub Closed : List (List ℕ) → List (List ℕ) → List ℕ → Type 0
 Closed cs held M = Preserved held (chosen M cs)
-
--- the spare capacity for all of a list
-abbrev pub need_of : List (List ℕ) → Capacity
-need_of cs = record { clauses = length cs; literals = size cs }

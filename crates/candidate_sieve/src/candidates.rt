@@ -1,6 +1,7 @@
 // The sieve of a list of candidates.
 ghost use Rattle.std.specs.Prelude.{◌≡◌};
 ghost use Rattle.lists.specs.Lists.{clauses_of};
+ghost use Rattle.layout.specs.Spelling.{Admitted};
 ghost use Rattle.clauses.specs.Candidates.{gathered, read_candidates as candidates_read, ReadAsSpelled};
 ghost use Rattle.candidate_sieve.specs.Read.{ClosedIsConsecution};
 
@@ -33,6 +34,7 @@ impl<'a> Model for CandidateSieve<'a> {
 fn read_list<'a>(case: &Case, bytes: &'a [u8]) -> Result<ClauseList<'a>, WorkFault>
     ensures value { gathered result ≡ candidates_read case.now.n bytes.now }
     ensures law { ReadAsSpelled case.now.n bytes.now result }
+    ensures admitted { Admitted case.now }
 {
     read_candidates(case.relays(), bytes)
 }
@@ -45,8 +47,6 @@ impl<'a> CandidateSieve<'a> {
         ensures value { result ≡ candidates_read case.now.n bytes.now }
         ensures consecution { ClosedIsConsecution ⟦<CandidateSieve<'static> as Sieve>⟧.closed case.now result }
     {
-        // read for what its contract says: the system of a case is an admitted one
-        let _spelled = case.bytes();
         let list = read_list(case, bytes)?;
         Ok(CandidateSieve { list })
     }

@@ -4,11 +4,10 @@ ghost use Rattle.std.specs.List.{AllByRecursion};
 ghost use Rattle.system.specs.Literals.{Valuation, bit, variable_of, literal, clause};
 ghost use Rattle.system.specs.Systems.{OverRelays, Rising};
 ghost use Rattle.system.specs.Preserving.{after};
-ghost use Rattle.solver.specs.Answers.{literals, fits};
-ghost use Rattle.sieve.specs.Sieves.{spare};
+ghost use Rattle.solver.specs.Answers.{literals, fits, need_of, spare};
 ghost use Rattle.lists.specs.Lists.{clauses_of};
 ghost use Rattle.candidate_sieve.specs.Questions.{Broken, unmarked, Settled};
-ghost use Rattle.candidate_sieve.specs.Candidates.{Formed, chosen, need_of};
+ghost use Rattle.candidate_sieve.specs.Candidates.{Formed, chosen};
 
 use lists::ClauseList;
 use sieve::Sifting;

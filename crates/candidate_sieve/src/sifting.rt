@@ -1,13 +1,14 @@
 // Sifting candidates: a place is a candidate, and marks are closed where the marked candidates, all met with the held
 // clauses before a step, are all true after it.
 ghost use Rattle.std.specs.Prelude.{◌≡◌, length};
-ghost use Rattle.system.specs.Literals.{size};
+ghost use Rattle.solver.specs.Answers.{need_of};
 ghost use Rattle.candidate_sieve.specs.Candidates.{Closed};
 ghost use Rattle.candidate_sieve.specs.Laws.{closed_none, closed_union};
 
 use crate::candidates::CandidateSieve;
 use crate::questions::{add_marked, find_broken, settle};
 use faults::WorkFault;
+use loading::need;
 use sieve::{Sieve, Sifting, check};
 use solver::{Capacity, Solver};
 
@@ -20,7 +21,7 @@ impl<'a> Sieve for CandidateSieve<'a> {
 
     ghost closed = { Closed };
 
-    ghost need = { λ s. record { clauses = length s; literals = size s } };
+    ghost need = { need_of };
 
     fn limit() -> usize
         ensures { result ≡ 512 }
@@ -33,10 +34,7 @@ impl<'a> Sieve for CandidateSieve<'a> {
     }
 
     fn need(&self) -> Capacity {
-        Capacity {
-            clauses: self.list.len(),
-            literals: self.list.literals(),
-        }
+        need(self.list)
     }
 
     fn sift<S: Solver>(&self, solver: &mut S, marks: &mut [u8]) -> Result<Sifting, WorkFault> {

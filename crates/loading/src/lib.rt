@@ -27,7 +27,7 @@ pub fn add_all<S: Solver>(solver: &mut S, list: ClauseList) -> Result<(), NoCapa
 }
 
 // The capacity that the clauses of a list take.
-fn need(list: ClauseList) -> Capacity
+pub fn need(list: ClauseList) -> Capacity
     ensures { result ≡ need_of (clauses_of list.entry) }
 {
     Capacity {

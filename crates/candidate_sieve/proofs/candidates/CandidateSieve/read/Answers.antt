@@ -8,9 +8,9 @@ use Rattle.candidate_sieve.proofs.candidates.CandidateSieve.read.Goals as goal
 pub invariant_of-result : goal.invariant_of-result
 invariant_of-result c =
     let cs = clauses_of c.in_ok-list.list in
-    candidates_formed c.args.case.now cs ((c.read_list.ensures.law cs).0 (ap gathered c.in_ok-list.was)).0 c.bytes-spelled.ensures.admitted.relays.1
+    candidates_formed c.args.case.now cs ((c.read_list.ensures.law cs).0 (ap gathered c.in_ok-list.was)).0 c.read_list.ensures.admitted.relays.1
 
 pub returns-clause-consecution : goal.returns-clause-consecution
 returns-clause-consecution c =
     let cs = clauses_of c.in_ok-list.list in
-    candidates_consecution c.args.case.now cs ((c.read_list.ensures.law cs).0 (ap gathered c.in_ok-list.was)).0 (admitted_consecution c.args.case.now c.bytes-spelled.ensures.admitted)
+    candidates_consecution c.args.case.now cs ((c.read_list.ensures.law cs).0 (ap gathered c.in_ok-list.was)).0 (admitted_consecution c.args.case.now c.read_list.ensures.admitted)
