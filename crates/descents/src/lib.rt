@@ -1,0 +1,8 @@
+// Both descents for programs in C or Rust, as a static library: of the literals false at a state, and of candidates.
+#![tactic(auto)]
+
+mod calls;
+mod outcome;
+mod tally;
+
+pub use calls::{hokhnebi_candidate_descent, hokhnebi_literal_descent};
