@@ -2,13 +2,9 @@
 use Rattle.std.proofs.Common.{◌≡◌, ℕ, ◌+◌, ◌≤◌, Bool, true, false, cond, ◌⊎◌, List, [], ◌∷◌, ◌++◌, length, sym, refl, ap, ◌∙◌, subst, inl, inr, arith, append_assoc, nat_eq}
 use Rattle.std.proofs.lemmas.List.{append-nil, length-append}
 use Rattle.system.specs.Literals.{size}
+use Rattle.system.proofs.Sizes.{size_append}
 use Rattle.solver.specs.declared.capacity.Capacity.{Capacity}
 use Rattle.candidate_sieve.specs.Candidates.{chosen}
-
--- the literals of two lists together
-pub size_append : (cs ds : List (List ℕ)) → size (cs ++ ds) ≡ size cs + size ds
-size_append [] ds = omega arith
-size_append (c ∷ cs) ds = let h = size_append cs ds in omega arith
 
 -- the first one, and those after it
 pub chosen_first : (x : ℕ) (M : List ℕ) (c : List ℕ) (cs : List (List ℕ)) → chosen (x ∷ M) (c ∷ cs) ≡ chosen (x ∷ []) (c ∷ []) ++ chosen M cs

@@ -2,11 +2,13 @@
 use Rattle.std.proofs.Common.{◌≡◌, ℕ, ◌+◌, ◌-◌, ◌/◌, ◌%◌, ◌<◌, ◌≤◌, Bool, true, false, not, ◌&&◌, ◌||◌, cond, T, eqb, List, [], ◌∷◌, ◌++◌, length, get_or, take, set, Some, None, sym, refl, ap, ◌∙◌, subst, ap₂, inl, inr, arith, shr-shr}
 use Rattle.std.specs.List.{AllByRecursion}
 use Rattle.std.proofs.lemmas.Bool.{lt-ltb, eq-eqb}
+use Rattle.std.proofs.Math.Bool.{and-true, and_assoc, or-false, or_assoc}
 use Rattle.std.proofs.lemmas.List.{length-set, take_more, take_more_set}
-use Rattle.system.specs.Literals.{Valuation, bit, variable_of, literal, clause, Occurs}
+use Rattle.system.specs.Literals.{Valuation, bit, variable_of, literal, clause}
 use Rattle.system.specs.Systems.{OverRelays, Rising}
 use Rattle.system.specs.Preserving.{after}
-use Rattle.system.proofs.Truth.{T_false, and_i, cases_T, member_all, clause_same}
+use Rattle.system.proofs.Truth.{T_false, and_i, cases_T}
+use Rattle.system.proofs.Preserving.{relays_alike}
 use Rattle.solver.specs.Answers.{literals, model, Satisfied}
 use Rattle.candidate_sieve.specs.Candidates.{Formed, chosen}
 use Rattle.candidate_sieve.specs.Questions.{Broken}
@@ -22,28 +24,12 @@ formed_length (l ∷ c) f = let e = rising_after 32 (variable_of l) c f.0.1 f.1.
 
 -- one more literal, of a list of them and of a clause
 literals_more : (a : Valuation) (ls : List ℕ) (l : ℕ) → literals a (ls ++ l ∷ []) ≡ (literals a ls && literal a l)
-literals_more a [] l = go (literal a l)
-  where
-    go : (b : Bool) → (b && true) ≡ b
-    go true = refl
-    go false = refl
-literals_more a (k ∷ ls) l = ap (λ b. literal a k && b) (literals_more a ls l) ∙ go (literal a k) (literals a ls) (literal a l)
-  where
-    go : (x y z : Bool) → (x && (y && z)) ≡ ((x && y) && z)
-    go true y z = refl
-    go false y z = refl
+literals_more a [] l = and-true (literal a l)
+literals_more a (k ∷ ls) l = ap (λ b. literal a k && b) (literals_more a ls l) ∙ sym (and_assoc (literal a k) (literals a ls) (literal a l))
 
 clause_more : (a : Valuation) (ls : List ℕ) (l : ℕ) → clause a (ls ++ l ∷ []) ≡ (clause a ls || literal a l)
-clause_more a [] l = go (literal a l)
-  where
-    go : (b : Bool) → (b || false) ≡ b
-    go true = refl
-    go false = refl
-clause_more a (k ∷ ls) l = ap (λ b. literal a k || b) (clause_more a ls l) ∙ go (literal a k) (clause a ls) (literal a l)
-  where
-    go : (x y z : Bool) → (x || (y || z)) ≡ ((x || y) || z)
-    go true y z = refl
-    go false y z = refl
+clause_more a [] l = or-false (literal a l)
+clause_more a (k ∷ ls) l = ap (λ b. literal a k || b) (clause_more a ls l) ∙ sym (or_assoc (literal a k) (clause a ls) (literal a l))
 
 not_or : (x y : Bool) → (not x && not y) ≡ not (x || y)
 not_or true y = refl
@@ -76,13 +62,6 @@ bit_after low v = ap (λ x. eqb (x % 2) 1) (shr-shr low 32 v)
 model_after : (low high v : ℕ) → v < 32 → bit low (32 + v) ≡ after (model low high) v
 model_after low high v h = sym (ap (λ b. cond b (bit low (32 + v)) (bit high ((32 + v) - 64))) (lt-ltb (32 + v) 64 (omega arith)))
 
--- a clause over relays after a step
-pub clause_after : (a b : Valuation) (c : List ℕ) → OverRelays 32 c → ((v : ℕ) → v < 32 → a v ≡ b v) → clause a c ≡ clause b c
-clause_after a b c o same = clause_same a b c (λ v k. same v (low v k))
-  where
-    low : (v : ℕ) → Occurs v c → v < 32
-    low v (l, m, e) = subst (λ u. u < 32) e (member_all (λ j. variable_of j < 32) c l o m)
-
 module _ (held : List (List ℕ)) (c assumed : List ℕ) (f : Formed c) (d : (a : Valuation) → literals a assumed ≡ not (clause (after a) c)) (x : ℕ) where
   pub answer_yes : x ≡ 1 → (low high t : ℕ) → Satisfied (model low high) held assumed → ((v : ℕ) → v < 32 → bit t v ≡ bit low (32 + v)) → Broken held (chosen (x ∷ []) (c ∷ [])) (Some t)
   answer_yes e low high t s is = rw (eq-eqb x 1 e) (record { values = model low high; admitted = s.0; next = next; broken = broken })
@@ -91,7 +70,7 @@ module _ (held : List (List ℕ)) (c assumed : List ℕ) (f : Formed c) (d : (a 
       next v h = is v h ∙ model_after low high v h
 
       false_after : T (not (clause (bit t) c))
-      false_after = subst T (d (model low high) ∙ ap not (sym (clause_after (bit t) (after (model low high)) c f.0 next))) s.1
+      false_after = subst T (d (model low high) ∙ ap not (sym (relays_alike 32 (bit t) (after (model low high)) c f.0 next))) s.1
 
       broken : T (not (clause (bit t) c && true))
       broken = subst (λ b. T (not (b && true))) (sym (T_false (clause (bit t) c) false_after)) tt

@@ -10,7 +10,7 @@ use Rattle.sieve.proofs.Marked.{marked_is, is_marked, marked_below, small, all_s
 use Rattle.candidate_sieve.specs.Candidates.{Formed, chosen, Closed}
 use Rattle.candidate_sieve.specs.Questions.{Breaks, unmarked}
 use Rattle.candidate_sieve.specs.Laws.{chosen_from, chosen_at, chosen_within}
-use Rattle.candidate_sieve.proofs.Denied.{clause_after}
+use Rattle.system.proofs.Preserving.{relays_alike}
 
 pub unmarked_length : (t : ℕ) (M : List ℕ) (cs : List (List ℕ)) → length (unmarked t M cs) ≡ length M
 unmarked_length t [] cs = refl
@@ -78,7 +78,7 @@ module _ (cs held : List (List ℕ)) (M : List ℕ) (m : Marks (length cs) M) (f
       let l : i < length cs = (let k = marked_below M i (w i y) in let e = m.0 in omega arith) in
       let p = clauses_parts b.values held (chosen M cs) b.admitted in
       let d = closed b.values p.0 (chosen_within b.values cs N M w p.1) in
-      subst T (sym (clause_after (bit t) (after b.values) (get_or cs i []) (formed_place i l).0 b.next))
+      subst T (sym (relays_alike 32 (bit t) (after b.values) (get_or cs i []) (formed_place i l).0 b.next))
       (clauses_each (after b.values) (chosen N cs) (get_or cs i []) d (chosen_at N cs i l y))
 
   pub unmarked_reduced : Reduced (length cs) (Closed cs held) M (unmarked t M cs)

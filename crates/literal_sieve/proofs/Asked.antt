@@ -6,7 +6,7 @@ use Rattle.std.proofs.lemmas.Bool.{true≢false, and_parts, and_from, leb-true, 
 use Rattle.system.specs.Literals.{Valuation, bit, clause, size}
 use Rattle.system.specs.Spelling.{spelled}
 use Rattle.system.specs.Preserving.{after}
-use Rattle.system.proofs.Truth.{T_true, T_false, cases_T, clauses_parts, clauses_append}
+use Rattle.system.proofs.Truth.{T_true, T_false, cases_T, alone_clause, clause_alone, clauses_parts, clauses_append}
 use Rattle.system.proofs.Bits.{low_bits}
 use Rattle.system.proofs.Spelled.{length_spelled}
 use Rattle.solver.specs.Answers.{Satisfied, Answered, model, fits}
@@ -23,7 +23,7 @@ use Rattle.sieve.specs.declared.sifting.Sifting.TheVariants.{Closed, Fewer}
 use Rattle.sieve.proofs.Marked.{small, all_small, marked_is, is_marked, marked_below}
 use Rattle.sieve.proofs.MarksChecked.{sift_marks, sift_spare}
 use Rattle.literal_sieve.specs.Literal.{AtState, false_at, closed, need}
-use Rattle.literal_sieve.specs.Laws.{one_of, of_one, false_at_some, some_false_at}
+use Rattle.literal_sieve.specs.Laws.{false_at_some, some_false_at}
 use Rattle.literal_sieve.proofs.Written.{spelled_false, spelled_true, spelled_each, each_spelled}
 
 -- two values that differ, and two that agree
@@ -58,7 +58,7 @@ module _ (s : AtState) (few : s.n ≤ 32) (held : List (List ℕ)) (M : List ℕ
   no_closed : ((a : Valuation) → Satisfied a (held ++ false_at s.n s.state M ∷ []) (spelled 32 s.n (marked M) (bit s.state)) → ⊥) → closed s held M
   no_closed none a h t =
       elim (cases_T (clause (after a) (false_at s.n s.state M))) [
-        | inl y ↦ of_one (after a) (false_at s.n s.state M) y
+        | inl y ↦ clause_alone (after a) (false_at s.n s.state M) y
         | inr f ↦ absurd (none a (clauses_append a held (false_at s.n s.state M ∷ []) h t, each_spelled 32 (marked M) (bit s.state) a s.n (unmet f)))
       ]
     where
@@ -93,7 +93,7 @@ module _ (s : AtState) (few : s.n ≤ 32) (held : List (List ℕ)) (M : List ℕ
     one_less : (i : ℕ) × T (marked M i) × T (not (marked out i))
     one_less =
         let h = clauses_parts a held (false_at s.n s.state M ∷ []) y.0 in
-        let r = false_at_some s.n s.state a M (one_of a (false_at s.n s.state M) h.1) in
+        let r = false_at_some s.n s.state a M (alone_clause a (false_at s.n s.state M) h.1) in
         let e : bit p r.0 ≡ not (bit s.state r.0) = is r.0 (omega (arith, r.1)) ∙ r.3 in
         (r.0, r.2, not_T _ (λ t. true≢false (sym (left r.0 t).0 ∙ beq_clash _ _ e)))
 
@@ -107,8 +107,8 @@ module _ (s : AtState) (few : s.n ≤ 32) (held : List (List ℕ)) (M : List ℕ
         broken : i < s.n → a i ≡ not (bit s.state i) → ⊥
         broken l q =
             let h = clauses_parts a held (false_at s.n s.state M ∷ []) y.0 in
-            let c = shut a h.0 (of_one a (false_at s.n s.state N) (some_false_at s.n s.state a N i l t q)) in
-            let r = false_at_some s.n s.state (after a) N (one_of (after a) (false_at s.n s.state N) c) in
+            let c = shut a h.0 (clause_alone a (false_at s.n s.state N) (some_false_at s.n s.state a N i l t q)) in
+            let r = false_at_some s.n s.state (after a) N (alone_clause (after a) (false_at s.n s.state N) c) in
             clash (bit s.state r.0) (sym (spelled_each 32 (marked M) (bit s.state) a s.n y.1 r.0 r.1 (w r.0 r.2)) ∙ r.3)
 
     yes_fewer : Reduced s.n (closed s held) M out

@@ -7,7 +7,7 @@ use Rattle.system.specs.Preserving.{Preserved, loaded, met}
 use Rattle.system.proofs.Spelled.{spelled_over}
 use Rattle.sieve.specs.Marks.{marked}
 use Rattle.literal_sieve.specs.Literal.{false_at, closed, ClosedIsConsecution}
-use Rattle.literal_sieve.specs.Laws.{one_of, of_one}
+use Rattle.system.proofs.Truth.{alone_clause, clause_alone}
 
 -- where it holds of lists of clauses, it holds of the one clause of marks
 pub closed_is_consecution : (c : System) (s : ℕ)
@@ -22,7 +22,7 @@ closed_is_consecution c s lists more M over = (to, from)
     over_d = (spelled_over c.n c.n (marked M) (λ i. not (bit s i)) (omega arith), tt)
 
     to : closed (record { n = c.n; state = s }) (loaded c more) M → Consecution c (met c more) (λ t. clause (bit t) d)
-    to h p q x y j = one_of (bit q) d ((lists more (d ∷ []) over over_d).0 h p q x (of_one (bit p) d y) j)
+    to h p q x y j = alone_clause (bit q) d ((lists more (d ∷ []) over over_d).0 h p q x (clause_alone (bit p) d y) j)
 
     from : Consecution c (met c more) (λ t. clause (bit t) d) → closed (record { n = c.n; state = s }) (loaded c more) M
-    from h = (lists more (d ∷ []) over over_d).1 (λ p q x y j. of_one (bit q) d (h p q x (one_of (bit p) d y) j))
+    from h = (lists more (d ∷ []) over over_d).1 (λ p q x y j. clause_alone (bit q) d (h p q x (alone_clause (bit p) d y) j))

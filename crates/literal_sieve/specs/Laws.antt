@@ -1,20 +1,13 @@
 -- The laws of the family of the literal sieve: no marks are closed, and so is the union of two closed sets.
-use Rattle.std.proofs.Common.{◌≡◌, ℕ, ◌<◌, not, T, List, [], ◌∷◌, sym, ap, ◌∙◌, inl, inr}
+use Rattle.std.proofs.Common.{◌≡◌, ℕ, ◌<◌, not, T, List, sym, ap, ◌∙◌, inl, inr}
 use native.Mathlib.Nat.{zero-add}
-use Rattle.system.specs.Literals.{Valuation, bit, clause, clauses}
+use Rattle.system.specs.Literals.{Valuation, bit, clause}
 use Rattle.system.specs.Preserving.{after}
-use Rattle.system.proofs.Truth.{and_l, and_i}
+use Rattle.system.proofs.Truth.{alone_clause, clause_alone}
 use Rattle.system.proofs.Spelled.{spelled_true, true_spelled}
 use Rattle.sieve.specs.Marks.{marked, Marks, Within, none, union}
 use Rattle.sieve.proofs.Marked.{none_marked, union_marked, union_left, union_right}
 use Rattle.literal_sieve.specs.Literal.{AtState, false_at, closed}
-
--- a list of one clause
-pub one_of : (a : Valuation) (d : List ℕ) → T (clauses a (d ∷ [])) → T (clause a d)
-one_of a d t = and_l (clause a d) (clauses a []) t
-
-pub of_one : (a : Valuation) (d : List ℕ) → T (clause a d) → T (clauses a (d ∷ []))
-of_one a d t = and_i (clause a d) (clauses a []) t tt
 
 module _ (n s : ℕ) where
   -- the marked clause is true where a marked relay is not as in the state
@@ -30,12 +23,12 @@ module _ (n s : ℕ) where
 -- no clause is true with no relay marked; and a union's is true where one of the two is
 module _ (s : AtState) (held : List (List ℕ)) where
   pub none_closed : closed s held (none s.n)
-  none_closed a h t = absurd (let r = false_at_some s.n s.state a (none s.n) (one_of a _ t) in none_marked s.n r.0 r.2)
+  none_closed a h t = absurd (let r = false_at_some s.n s.state a (none s.n) (alone_clause a _ t) in none_marked s.n r.0 r.2)
 
   pub union_closed : (M N : List ℕ) → Marks s.n M → Marks s.n N → closed s held M → closed s held N → closed s held (union M N)
   union_closed M N m k f g a h t =
-      let r = false_at_some s.n s.state a (union M N) (one_of a _ t) in
+      let r = false_at_some s.n s.state a (union M N) (alone_clause a _ t) in
       elim (union_marked s.n M N m k r.0 r.2) [
-        | inl y ↦ of_one (after a) _ (false_at_within s.n s.state (after a) M (union M N) (union_left s.n M N m k) (one_of (after a) (false_at s.n s.state M) (f a h (of_one a _ (some_false_at s.n s.state a M r.0 r.1 y r.3)))))
-        | inr y ↦ of_one (after a) _ (false_at_within s.n s.state (after a) N (union M N) (union_right s.n M N m k) (one_of (after a) (false_at s.n s.state N) (g a h (of_one a _ (some_false_at s.n s.state a N r.0 r.1 y r.3)))))
+        | inl y ↦ clause_alone (after a) _ (false_at_within s.n s.state (after a) M (union M N) (union_left s.n M N m k) (alone_clause (after a) (false_at s.n s.state M) (f a h (clause_alone a _ (some_false_at s.n s.state a M r.0 r.1 y r.3)))))
+        | inr y ↦ clause_alone (after a) _ (false_at_within s.n s.state (after a) N (union M N) (union_right s.n M N m k) (alone_clause (after a) (false_at s.n s.state N) (g a h (clause_alone a _ (some_false_at s.n s.state a N r.0 r.1 y r.3)))))
       ]

@@ -3,13 +3,9 @@ use Rattle.std.proofs.Common.{◌≡◌, ℕ, ◌+◌, true, false, List, [], �
 use Rattle.std.proofs.lemmas.Bool.{and_parts, and_from, leb-true, le-leb, lt-ltb}
 use Rattle.std.proofs.lemmas.Bool.Decides.{nat_tests}
 use Rattle.system.specs.Literals.{size}
+use Rattle.system.proofs.Sizes.{size_append}
 use Rattle.solver.specs.Answers.{fits, spare, need_of}
 use Rattle.solver.specs.declared.capacity.Capacity.{Capacity}
-
--- the literals of two lists together
-pub size_append : (cs ds : List (List ℕ)) → size (cs ++ ds) ≡ size cs + size ds
-size_append [] ds = omega arith
-size_append (c ∷ cs) ds = let h = size_append cs ds in omega arith
 
 module _ (held cs : List (List ℕ)) (capacity : Capacity) (room : spare (need_of cs) held capacity ≡ true) (now left : List (List ℕ)) (all : now ++ left ≡ held ++ cs) where
   -- the next of what is left fits

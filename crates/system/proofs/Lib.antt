@@ -4,3 +4,4 @@ pub mod Bits
 pub mod Spelled
 pub mod Numbers
 pub mod Preserving
+pub mod Sizes

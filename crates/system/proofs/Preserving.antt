@@ -2,13 +2,19 @@
 use Rattle.std.proofs.Common.{◌≡◌, ℕ, ◌+◌, ◌-◌, ◌<◌, ◌≤◌, ◌&&◌, ◌||◌, T, ◌⊎◌, ◌↔◌, List, [], ◌∷◌, ◌++◌, sym, subst, ◌∙◌, inl, inr, arith, nat_lt, nat_le}
 use Rattle.std.specs.List.{AllByRecursion}
 use Rattle.std.proofs.lemmas.Bool.{lt-ltb, le-ltb, ltb-true, leb-true}
-use Rattle.system.specs.Literals.{Valuation, bit, variable_of, clauses, OccursAmong}
+use Rattle.system.specs.Literals.{Valuation, bit, variable_of, clause, clauses, Occurs, OccursAmong}
 use Rattle.system.specs.Systems.{System, Step, step_bits, Consecution, OverRelays, OverVariables, is_variable}
 use Rattle.system.specs.Preserving.{after, Preserved, StepFormed, PreservedIsConsecution, loaded, met}
-use Rattle.system.proofs.Truth.{T_true, and_l, and_r, or_e, member_all, clauses_same, clauses_parts, clauses_append}
+use Rattle.system.proofs.Truth.{T_true, and_l, and_r, or_e, member_all, clause_same, clauses_same, clauses_parts, clauses_append}
 use Rattle.system.proofs.Numbers.{number, bit_number, number_below}
 
 -- clauses over relays have the same truth under valuations that agree on these
+pub relays_alike : (n : ℕ) (a b : Valuation) (c : List ℕ) → OverRelays n c → ((v : ℕ) → v < n → a v ≡ b v) → clause a c ≡ clause b c
+relays_alike n a b c over same = clause_same a b c (λ v o. same v (low v o))
+  where
+    low : (v : ℕ) → Occurs v c → v < n
+    low v (l, k, e) = subst (λ u. u < n) e (member_all (λ j. variable_of j < n) c l over k)
+
 pub relays_same : (n : ℕ) (a b : Valuation) (ds : List (List ℕ)) → AllByRecursion (OverRelays n) ds → ((v : ℕ) → v < n → a v ≡ b v) → clauses a ds ≡ clauses b ds
 relays_same n a b ds over same = clauses_same a b ds (λ v o. same v (low v o))
   where

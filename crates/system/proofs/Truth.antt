@@ -110,6 +110,13 @@ clauses_append a (c ∷ xs) ys p q =
     and_i (clause a c) (clauses a (xs ++ ys)) (and_l (clause a c) (clauses a xs) p)
     (clauses_append a xs ys (and_r (clause a c) (clauses a xs) p) q)
 
+-- a list of one clause is true where that clause is
+pub alone_clause : (a : Valuation) (c : List ℕ) → T (clauses a (c ∷ [])) → T (clause a c)
+alone_clause a c t = and_l (clause a c) true t
+
+pub clause_alone : (a : Valuation) (c : List ℕ) → T (clause a c) → T (clauses a (c ∷ []))
+clause_alone a c t = and_i (clause a c) true t tt
+
 -- truth depends only on the variables that occur
 pub clause_same : (a b : Valuation) (c : List ℕ) → ((v : ℕ) → Occurs v c → a v ≡ b v) → clause a c ≡ clause b c
 clause_same a b [] h = refl
