@@ -41,8 +41,9 @@ fn read_list<'a>(case: &Case, bytes: &'a [u8]) -> Result<ClauseList<'a>, WorkFau
 
 impl<'a> CandidateSieve<'a> {
     // The candidates in the bytes, over the relays of the case; refused is what reading the list refuses. Where a solver
-    // holds what it does of the case and further clauses over its relays, the closed marks are exactly those whose
-    // clauses every step preserves from a state that meets the safety clauses and the further ones.
+    // holds the case's step clauses, its safety clauses and further ones over its relays, marks are closed exactly where
+    // their clauses are all true after every step from a state that meets them all, the safety clauses and the further
+    // ones.
     pub fn read(case: &Case, bytes: &'a [u8]) -> Result<CandidateSieve<'a>, WorkFault>
         ensures value { result ≡ candidates_read case.now.n bytes.now }
         ensures consecution { ClosedIsConsecution ⟦<CandidateSieve<'static> as Sieve>⟧.closed case.now result }

@@ -26,8 +26,8 @@ pub trait Fault {
         self.refusal().number
     }
 
-    // What the refusal points at: a byte index, but for Short the count of bytes, and for NoSuchClause the number that
-    // was given.
+    // What the refusal points at: a byte index, but for Short the count of bytes, for NoSuchClause the number that was
+    // given, and for Marks the number of the mark.
     fn place(&self) -> usize
         ensures { result ≡ (refusal self.now).place }
     {

@@ -33,8 +33,9 @@ impl Model for LiteralSieve {
 }
 
 impl LiteralSieve {
-    // The sieve of a case at a state. Where a solver holds the case's step clauses, its safety clauses and more over its
-    // relays, marks are closed exactly where their clause keeps true along the case's steps from states that meet these.
+    // The sieve of a case at a state. Where a solver holds the case's step clauses, its safety clauses and further ones over
+    // its relays, marks are closed exactly where their clause is true after every step from a state that meets it, the
+    // safety clauses and the further ones.
     pub fn new(case: &Case, state: u32) -> LiteralSieve
         ensures value { result ≡ record { n = case.now.n; state = state } }
         ensures consecution { ClosedIsConsecution case.now state (⟦<LiteralSieve as Sieve>⟧.closed result) }
