@@ -2,8 +2,6 @@
 
 namespace {
 
-uint8_t literal(unsigned variable, bool negated) { return (uint8_t)(2 * variable + (negated ? 1 : 0)); }
-
 uint8_t drawn(Random& random, unsigned first, unsigned variables) { return literal(first + random.below(variables), random.below(2) == 1); }
 
 }  // namespace

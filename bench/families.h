@@ -1,18 +1,6 @@
 // The lists of clauses that the benchmark and the differential test ask about, each made from a seed.
 #pragma once
-#include "peers.h"
-
-struct Random {
-    uint64_t state;
-    explicit Random(uint64_t seed) : state(seed * 0x9E3779B97F4A7C15ull + 0x2545F4914F6CDD1Dull) {}
-    uint64_t next() {
-        state ^= state << 13;
-        state ^= state >> 7;
-        state ^= state << 17;
-        return state * 0x2545F4914F6CDD1Dull >> 16;
-    }
-    unsigned below(unsigned bound) { return (unsigned)(next() % bound); }
-};
+#include "clauses.h"
 
 struct Question {
     Clauses held;

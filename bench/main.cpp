@@ -7,6 +7,7 @@
 #include <cstring>
 
 #include "families.h"
+#include "peers.h"
 
 namespace {
 

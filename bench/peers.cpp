@@ -19,15 +19,6 @@ uint32_t hokhnebi_counting(size_t clauses, size_t literals, const uint8_t* held,
 
 namespace {
 
-std::vector<uint8_t> spelled(const Clauses& list) {
-    std::vector<uint8_t> bytes;
-    for (const Clause& clause : list) {
-        bytes.push_back((uint8_t)clause.size());
-        bytes.insert(bytes.end(), clause.begin(), clause.end());
-    }
-    return bytes;
-}
-
 using Exported = uint32_t (*)(size_t, size_t, const uint8_t*, size_t, const uint8_t*, size_t, Reply*, size_t);
 
 std::vector<Answer> ours(Exported call, const Clauses& held, const Clauses& questions) {
@@ -52,7 +43,6 @@ std::vector<Answer> counting(const Clauses& held, const Clauses& questions) { re
 
 std::vector<Answer> picosat(const Clauses& held, const Clauses& questions) {
     PicoSAT* solver = picosat_init();
-    auto number = [](uint8_t literal) { return (literal & 1) ? -(literal / 2 + 1) : literal / 2 + 1; };
     for (const Clause& clause : held) {
         for (uint8_t literal : clause) picosat_add(solver, number(literal));
         picosat_add(solver, 0);

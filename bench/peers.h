@@ -1,12 +1,6 @@
-// One question to each solver: the same clauses and the same assumed literals, as bytes. A literal is twice its variable,
-// plus 1 if negated; a list is one length byte and then the literals of each clause, one clause after another.
+// One question to each solver: the same clauses and the same assumed literals, as bytes.
 #pragma once
-#include <cstddef>
-#include <cstdint>
-#include <vector>
-
-using Clause = std::vector<uint8_t>;
-using Clauses = std::vector<Clause>;
+#include "clauses.h"
 
 struct Answer {
     bool yes = false;
