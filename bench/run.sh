@@ -1,12 +1,22 @@
 #!/usr/bin/env bash
 # Builds the solvers as a static library and the benchmark over it, and prints its table of times and ratios.
 # With `differ N`: asks N small random lists of both solvers and of PicoSAT instead.
+# With `descents`: builds the descents as a static library and prints their table of questions, times and ratios instead.
 set -eu
 cd "$(dirname "$0")/.."
 mkdir -p target/bench
 log=$PWD/target/bench/lib.log
-(cd crates/exported && rt lib >"$log" 2>&1) || { tail -n 20 "$log"; exit 1; }
 kit=$(dirname "$(rt doc)")
-g++ -std=c++17 -O2 -Wall bench/main.cpp bench/families.cpp bench/peers.cpp \
-    crates/exported/out/libexported.a "$kit/c/liblibc_c.a" -lpicosat -lminisat -o target/bench/bench
+
+# build CRATE PROGRAM WORD..: the crate's static library, and the program over it from the sources and libraries given
+build() {
+    (cd "crates/$1" && rt lib >"$log" 2>&1) || { tail -n 20 "$log"; exit 1; }
+    g++ -std=c++17 -O2 -Wall "${@:3}" "crates/$1/out/lib$1.a" "$kit/c/liblibc_c.a" -lpicosat -lminisat -o "target/bench/$2"
+}
+
+if [ "${1-}" = descents ]; then
+    build descents descents bench/descents.cpp bench/sifting.cpp bench/cases.cpp
+    exec target/bench/descents
+fi
+build exported bench bench/main.cpp bench/families.cpp bench/peers.cpp
 exec target/bench/bench "$@"
