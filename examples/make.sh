@@ -1,5 +1,5 @@
 #!/usr/bin/env bash
-# Writes the sample cases beside this script from their bytes in hexadecimal.
+# Writes the sample cases and the list of candidates beside this script from their bytes in hexadecimal.
 set -eu
 cd "$(dirname "$0")"
 
@@ -19,6 +19,9 @@ write b.case 0200 0000 0200 0200 0100 1200 1600 1c00 1e00 \
     0101 0103 \
     020241 020340 \
     0101
+write c.case 0200 0000 0200 0400 0000 1200 1600 2200 2200 \
+    0101 0103 \
+    020241 020340 020043 020142
 write three.case 0300 0200 0100 0100 0100 1200 1600 1c00 2000 \
     03000205 \
     050041438083 \
@@ -27,3 +30,4 @@ write damaged.case 0300 0200 0100 0100 0100 1200 1600 1c00 2000 \
     03000005 \
     050041438083 \
     03010304
+write c.candidates 0101 0103 0100
