@@ -6,6 +6,8 @@
 #[cfg(test)]
 mod answers;
 #[cfg(test)]
+mod candidate_descents;
+#[cfg(test)]
 mod candidates;
 #[cfg(test)]
 mod capacities;
@@ -13,6 +15,8 @@ mod capacities;
 mod changes;
 #[cfg(test)]
 mod lengths;
+#[cfg(test)]
+mod literal_descents;
 #[cfg(test)]
 mod samples;
 #[cfg(test)]

@@ -1,4 +1,4 @@
-// The two cases that the tables change, and what reading says of bytes.
+// The cases that the tables change or descend over, and what reading says of bytes.
 use cases::Case;
 use faults::Fault;
 use std::alloc::Global;
@@ -26,6 +26,14 @@ pub const THREE: [u8; 32] = [
     3, 0, 2, 5, //
     5, 0, 0x41, 0x43, 0x80, 0x83, //
     3, 1, 3, 4,
+];
+
+// The relays of TWO, but each becomes as the other was, and no safety clause. Start clauses at 18 and 20, step clauses at 22,
+// 25, 28 and 31; the safety section begins at 34, which is the end.
+pub const SWAP: [u8; 34] = [
+    2, 0, 0, 0, 2, 0, 4, 0, 0, 0, 18, 0, 22, 0, 34, 0, 34, 0, //
+    1, 1, 1, 3, //
+    2, 2, 0x41, 2, 3, 0x40, 2, 0, 0x43, 2, 1, 0x42,
 ];
 
 // Writes the values over the bytes from the index on.
