@@ -20,6 +20,8 @@ mod literal_descents;
 #[cfg(test)]
 mod samples;
 #[cfg(test)]
+mod sift_refusals;
+#[cfg(test)]
 mod solvers;
 #[cfg(test)]
 mod variables;
