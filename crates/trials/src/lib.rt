@@ -1,12 +1,15 @@
 // Cases at the limits of the format, run: tables of changed bytes with the refusal that each must bring. The expected
 // values are worked out by hand from the description of the format, not from the code. And tables of calls for both solvers, at
-// the edges of what they hold and of the variables that there are.
+// the edges of what they hold and of the variables that there are. And tables of descents over small systems and over as many
+// relays and candidates as there may be: the marks given, and those that are left.
 #![tactic(auto)]
 
 #[cfg(test)]
 mod answers;
 #[cfg(test)]
 mod candidate_descents;
+#[cfg(test)]
+mod candidate_moves;
 #[cfg(test)]
 mod candidates;
 #[cfg(test)]
@@ -17,6 +20,12 @@ mod changes;
 mod lengths;
 #[cfg(test)]
 mod literal_descents;
+#[cfg(test)]
+mod literal_moves;
+#[cfg(test)]
+mod many_candidates;
+#[cfg(test)]
+mod moves;
 #[cfg(test)]
 mod samples;
 #[cfg(test)]
