@@ -1,12 +1,11 @@
 -- The marked clauses of a list, asked about one after another. Assumes nothing.
-use Rattle.std.proofs.Common.{◌≡◌, ℕ, T, ◌⊎◌, List, [], ◌∷◌, length, None, sym, subst}
+use Rattle.std.proofs.Common.{◌≡◌, ℕ, T, ◌⊎◌, List, [], length, None, sym, subst}
 use Rattle.std.specs.List.{AllByRecursion}
 use Rattle.system.specs.Literals.{Valuation, clauses}
 use Rattle.system.specs.Preserving.{after}
-use Rattle.system.proofs.Truth.{clauses_parts}
 use Rattle.candidate_sieve.specs.Candidates.{Formed, chosen}
-use Rattle.candidate_sieve.specs.Questions.{Broken}
-use Rattle.candidate_sieve.proofs.Adding.{chosen_first, chosen_over}
+use Rattle.candidate_sieve.specs.Questions.{Found}
+use Rattle.candidate_sieve.proofs.Adding.{chosen_over}
 
 -- the marked ones of what is left are among all of them, and all are preserved where those are
 pub record Asking (held all : List (List ℕ)) (M : List ℕ) (cs : List (List ℕ)) : Type 0 where
@@ -15,13 +14,5 @@ pub record Asking (held all : List (List ℕ)) (M : List ℕ) (cs : List (List �
   pub passed : (a : Valuation) → T (clauses a held) → T (clauses (after a) (chosen M cs)) → T (clauses (after a) all)
 
 module _ (held all : List (List ℕ)) where
-  module _ (x : ℕ) (M : List ℕ) (c : List ℕ) (cs : List (List ℕ)) (k : Asking held all (x ∷ M) (c ∷ cs)) where
-    one : List (List ℕ)
-    one = chosen (x ∷ []) (c ∷ [])
-
-    parts : (b : Valuation) → T (clauses b (chosen (x ∷ M) (c ∷ cs))) → T (clauses b one) × T (clauses b (chosen M cs))
-    unfolding one
-    parts b t = clauses_parts b (chosen (x ∷ []) (c ∷ [])) (chosen M cs) (subst (λ ds. T (clauses b ds)) (chosen_first x M c cs) t)
-
-  pub asking_end : (M : List ℕ) (cs : List (List ℕ)) → Asking held all M cs → (cs ≡ []) ⊎ (length M ≡ 0) → Broken held all None
+  pub asking_end : (M : List ℕ) (cs : List (List ℕ)) → Asking held all M cs → (cs ≡ []) ⊎ (length M ≡ 0) → Found held all None
   asking_end M cs k h a t = k.passed a t (subst (λ ds. T (clauses (after a) ds)) (sym (chosen_over M cs h)) tt)

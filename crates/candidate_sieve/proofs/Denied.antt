@@ -1,5 +1,5 @@
 -- The negations of a clause's literals after a step, and what the answers about them say. Assumes nothing.
-use Rattle.std.proofs.Common.{◌≡◌, ℕ, ◌+◌, ◌-◌, ◌/◌, ◌%◌, ◌<◌, ◌≤◌, Bool, true, false, not, ◌&&◌, ◌||◌, cond, T, eqb, List, [], ◌∷◌, ◌++◌, length, get_or, take, set, Some, None, sym, refl, ap, ◌∙◌, subst, ap₂, inl, inr, arith, shr-shr}
+use Rattle.std.proofs.Common.{◌≡◌, ℕ, ◌+◌, ◌-◌, ◌/◌, ◌%◌, ◌<◌, ◌≤◌, Bool, true, not, ◌&&◌, ◌||◌, cond, T, eqb, List, [], ◌∷◌, ◌++◌, length, get_or, take, set, Some, None, sym, ap, ◌∙◌, subst, ap₂, inl, inr, arith, shr-shr}
 use Rattle.std.specs.List.{AllByRecursion}
 use Rattle.std.proofs.lemmas.Bool.{lt-ltb, eq-eqb}
 use Rattle.std.proofs.Math.Bool.{and-true, and_assoc, or-false, or_assoc}
@@ -11,7 +11,7 @@ use Rattle.system.proofs.Truth.{T_false, and_i, cases_T}
 use Rattle.system.proofs.Preserving.{relays_alike}
 use Rattle.solver.specs.Answers.{literals, model, Satisfied}
 use Rattle.candidate_sieve.specs.Candidates.{Formed, chosen}
-use Rattle.candidate_sieve.specs.Questions.{Broken}
+use Rattle.candidate_sieve.specs.Questions.{Found}
 
 -- a rising clause over 32 relays has at most 32 literals
 rising_after : (n v : ℕ) (c : List ℕ) → OverRelays n c → Rising c → AllByRecursion (λ k. v < variable_of k) c → v < n → v + 1 + length c ≤ n
@@ -32,8 +32,7 @@ clause_more a [] l = or-false (literal a l)
 clause_more a (k ∷ ls) l = ap (λ b. literal a k || b) (clause_more a ls l) ∙ sym (or_assoc (literal a k) (clause a ls) (literal a l))
 
 not_or : (x y : Bool) → (not x && not y) ≡ not (x || y)
-not_or true y = refl
-not_or false y = refl
+not_or x y = grind arith
 
 -- the first n literals are written
 pub record Writing (c : List ℕ) (n : ℕ) (out : List ℕ) : Type 0 where
@@ -63,7 +62,7 @@ model_after : (low high v : ℕ) → v < 32 → bit low (32 + v) ≡ after (mode
 model_after low high v h = sym (ap (λ b. cond b (bit low (32 + v)) (bit high ((32 + v) - 64))) (lt-ltb (32 + v) 64 (omega arith)))
 
 module _ (held : List (List ℕ)) (c assumed : List ℕ) (f : Formed c) (d : (a : Valuation) → literals a assumed ≡ not (clause (after a) c)) (x : ℕ) where
-  pub answer_yes : x ≡ 1 → (low high t : ℕ) → Satisfied (model low high) held assumed → ((v : ℕ) → v < 32 → bit t v ≡ bit low (32 + v)) → Broken held (chosen (x ∷ []) (c ∷ [])) (Some t)
+  pub answer_yes : x ≡ 1 → (low high t : ℕ) → Satisfied (model low high) held assumed → ((v : ℕ) → v < 32 → bit t v ≡ bit low (32 + v)) → Found held (chosen (x ∷ []) (c ∷ [])) (Some t)
   answer_yes e low high t s is = rw (eq-eqb x 1 e) (record { values = model low high; admitted = s.0; next = next; broken = broken })
     where
       next : (v : ℕ) → v < 32 → bit t v ≡ after (model low high) v
@@ -75,7 +74,7 @@ module _ (held : List (List ℕ)) (c assumed : List ℕ) (f : Formed c) (d : (a 
       broken : T (not (clause (bit t) c && true))
       broken = subst (λ b. T (not (b && true))) (sym (T_false (clause (bit t) c) false_after)) tt
 
-  pub answer_no : x ≡ 1 → ((a : Valuation) → Satisfied a held assumed → ⊥) → Broken held (chosen (x ∷ []) (c ∷ [])) None
+  pub answer_no : x ≡ 1 → ((a : Valuation) → Satisfied a held assumed → ⊥) → Found held (chosen (x ∷ []) (c ∷ [])) None
   answer_no e none a t = rw (eq-eqb x 1 e) (and_i (clause (after a) c) true (elim (cases_T (clause (after a) c)) [
     | inl y ↦ y
     | inr n ↦ absurd (none a (t, subst T (sym (d a)) n))

@@ -5,8 +5,8 @@ use Rattle.system.specs.Literals.{bit, clauses}
 use Rattle.system.specs.Systems.{System, OverRelays, Rising, Consecution}
 use Rattle.system.specs.Preserving.{Preserved, loaded, met}
 use Rattle.clauses.specs.Candidates.{CandidateList}
-use Rattle.candidate_sieve.specs.Candidates.{Formed, chosen, Closed}
-use Rattle.candidate_sieve.specs.Read.{ClosedIsConsecution}
+use Rattle.candidate_sieve.specs.Candidates.{Formed, chosen, TogetherClosed}
+use Rattle.candidate_sieve.specs.Read.{TogetherIsConsecution}
 
 over_more : (n : ℕ) (c : List ℕ) → n ≤ 32 → OverRelays n c → OverRelays 32 c
 over_more n [] h o = tt
@@ -30,5 +30,5 @@ module _ (c : System) (cs : List (List ℕ)) (l : CandidateList c.n cs) where
   candidates_formed h = record { few = l.few; formed = formed_more c.n cs h l.formed }
 
   pub candidates_consecution : ((more ds : List (List ℕ)) → AllByRecursion (OverRelays c.n) more → AllByRecursion (OverRelays c.n) ds → Preserved (loaded c more) ds ↔ Consecution c (met c more) (λ s. clauses (bit s) ds))
-      → ClosedIsConsecution Closed c (Ok cs)
+      → TogetherIsConsecution TogetherClosed c (Ok cs)
   candidates_consecution shown more M over = shown more (chosen M cs) over (chosen_over_relays c.n M cs l.formed)

@@ -1,13 +1,13 @@
 -- Marks taken away one after another, and what is left of them. Assumes nothing.
-use Rattle.std.proofs.Common.{◌≡◌, ℕ, zero, suc, ◌+◌, ◌<◌, Bool, true, false, not, ◌&&◌, cond, T, List, [], ◌∷◌, ◌++◌, length, get_or, take, drop, sym, refl, ap, ◌∙◌, subst, inl, inr, arith}
+use Rattle.std.proofs.Common.{◌≡◌, ℕ, zero, suc, ◌+◌, ◌<◌, not, ◌&&◌, cond, T, List, [], ◌∷◌, ◌++◌, length, get_or, take, drop, sym, refl, ap, subst, inl, inr, arith}
 use Rattle.std.specs.List.{AllByRecursion}
-use Rattle.std.proofs.Math.Dec.{not_T, T_not}
 use Rattle.system.specs.Literals.{Valuation, bit, clause, clauses, Member}
 use Rattle.system.specs.Preserving.{after}
-use Rattle.system.proofs.Truth.{T_of, T_true, cases_T, clauses_each, clauses_parts}
+use Rattle.system.proofs.Truth.{T_true, cases_T, clauses_each, clauses_parts}
 use Rattle.sieve.specs.Marks.{marked, Marks, Within, Reduced}
-use Rattle.sieve.proofs.Marked.{marked_is, is_marked, marked_below, small, all_small}
-use Rattle.candidate_sieve.specs.Candidates.{Formed, chosen, Closed}
+use Rattle.sieve.proofs.Marked.{marked_below}
+use Rattle.sieve.proofs.Reducing.{reduced}
+use Rattle.candidate_sieve.specs.Candidates.{Formed, chosen, TogetherClosed}
 use Rattle.candidate_sieve.specs.Questions.{Breaks, unmarked}
 use Rattle.candidate_sieve.specs.Laws.{chosen_from, chosen_at, chosen_within}
 use Rattle.system.proofs.Preserving.{relays_alike}
@@ -39,31 +39,7 @@ some_false b (c ∷ cs) t =
       | inr n ↦ (c, inl refl, n)
     ]
 
-cond_one : (b : Bool) (x : ℕ) → cond b x 0 ≡ 1 → (b ≡ true) × (x ≡ 1)
-cond_one true x e = (refl, e)
-cond_one false x e = absurd (let z : ⊥ = omega arith in z)
-
-cond_small : (b : Bool) (x : ℕ) → x < 2 → cond b x 0 < 2
-cond_small true x h = h
-cond_small false x h = omega arith
-
 module _ (cs held : List (List ℕ)) (M : List ℕ) (m : Marks (length cs) M) (f : AllByRecursion Formed cs) (t : ℕ) (b : Breaks (held ++ chosen M cs) (chosen M cs) t) where
-  long : length (unmarked t M cs) ≡ length M
-  long = unmarked_length t M cs
-
-  at : (i : ℕ) → i < length M → get_or (unmarked t M cs) i 0 ≡ cond (clause (bit t) (get_or cs i [])) (get_or M i 0) 0
-  at i h = unmarked_at t M cs i h m.0
-
-  left_is : (i : ℕ) → T (marked (unmarked t M cs) i) → T (clause (bit t) (get_or cs i [])) × T (marked M i)
-  left_is i k =
-      let h : i < length M = (let l = marked_below (unmarked t M cs) i k in let e = long in omega arith) in
-      let r = cond_one (clause (bit t) (get_or cs i [])) (get_or M i 0) (sym (at i h) ∙ marked_is (unmarked t M cs) i k) in
-      (T_of r.0, is_marked M i r.1)
-
-  left_of : (i : ℕ) → T (marked M i) → T (clause (bit t) (get_or cs i [])) → T (marked (unmarked t M cs) i)
-  left_of i k y =
-      is_marked (unmarked t M cs) i (at i (marked_below M i k) ∙ ap (λ x. cond x (get_or M i 0) 0) (T_true (clause (bit t) (get_or cs i [])) y) ∙ marked_is M i k)
-
   formed_place : (i : ℕ) → i < length cs → Formed (get_or cs i [])
   formed_place i h = go cs i f h
     where
@@ -73,7 +49,7 @@ module _ (cs held : List (List ℕ)) (M : List ℕ) (m : Marks (length cs) M) (f
       go (d ∷ ds) (suc i) g l = go ds i g.1 (omega arith)
 
   -- what is marked in a closed part is true in the state
-  closed_true : (N : List ℕ) → Closed cs held N → Within N M → (i : ℕ) → T (marked N i) → T (clause (bit t) (get_or cs i []))
+  closed_true : (N : List ℕ) → TogetherClosed cs held N → Within N M → (i : ℕ) → T (marked N i) → T (clause (bit t) (get_or cs i []))
   closed_true N closed w i y =
       let l : i < length cs = (let k = marked_below M i (w i y) in let e = m.0 in omega arith) in
       let p = clauses_parts b.values held (chosen M cs) b.admitted in
@@ -81,19 +57,14 @@ module _ (cs held : List (List ℕ)) (M : List ℕ) (m : Marks (length cs) M) (f
       subst T (sym (relays_alike 32 (bit t) (after b.values) (get_or cs i []) (formed_place i l).0 b.next))
       (clauses_each (after b.values) (chosen N cs) (get_or cs i []) d (chosen_at N cs i l y))
 
-  pub unmarked_reduced : Reduced (length cs) (Closed cs held) M (unmarked t M cs)
-  unmarked_reduced = record { marks = (long ∙ m.0, all_small (unmarked t M cs) small_left); within = λ i k. (left_is i k).1; fewer = fewer; idle = idle }
-    where
-      small_left : (i : ℕ) → i < length (unmarked t M cs) → get_or (unmarked t M cs) i 0 < 2
-      small_left i h =
-          let l : i < length M = let e = long in omega arith in
-          subst (λ x. x < 2) (sym (at i l)) (cond_small (clause (bit t) (get_or cs i [])) (get_or M i 0) (small (length cs) M m i (omega (arith, m.0))))
+  -- one of the marked clauses is false in the state
+  one_false : (i : ℕ) × T (marked M i) × T (not (clause (bit t) (get_or cs i [])))
+  one_false =
+      let s = some_false (bit t) (chosen M cs) b.broken in
+      let r = chosen_from M cs s.0 s.1 in
+      (r.0, r.2, subst (λ d. T (not (clause (bit t) d))) (sym r.3) s.2)
 
-      fewer : (i : ℕ) × T (marked M i) × T (not (marked (unmarked t M cs) i))
-      fewer =
-          let s = some_false (bit t) (chosen M cs) b.broken in
-          let r = chosen_from M cs s.0 s.1 in
-          (r.0, r.2, not_T _ (λ k. T_not _ (subst (λ d. T (not (clause (bit t) d))) (sym r.3) s.2) (left_is r.0 k).0))
-
-      idle : (i : ℕ) → T (marked M i) → T (not (marked (unmarked t M cs) i)) → (N : List ℕ) → Marks (length cs) N → Closed cs held N → Within N M → T (not (marked N i))
-      idle i k gone N n closed w = not_T _ (λ y. T_not _ gone (left_of i k (closed_true N closed w i y)))
+  pub unmarked_reduced : Reduced (length cs) (TogetherClosed cs held) M (unmarked t M cs)
+  unmarked_reduced =
+      reduced (length cs) (TogetherClosed cs held) M (unmarked t M cs) m (unmarked_length t M cs) (λ i. clause (bit t) (get_or cs i [])) (λ i h. unmarked_at t M cs i h m.0)
+      closed_true one_false

@@ -14,5 +14,5 @@ chosen (x ∷ M) [] = []
 chosen (x ∷ M) (c ∷ cs) = cond (x == 1) (c ∷ chosen M cs) (chosen M cs)
 
 -- the marked ones, all met with the held clauses before a step, are all true after it
-abbrev pub Closed : List (List ℕ) → List (List ℕ) → List ℕ → Type 0
-Closed cs held M = Preserved held (chosen M cs)
+abbrev pub TogetherClosed : List (List ℕ) → List (List ℕ) → List ℕ → Type 0
+TogetherClosed cs held M = Preserved held (chosen M cs)

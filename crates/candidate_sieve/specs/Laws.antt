@@ -5,7 +5,7 @@ use Rattle.system.specs.Preserving.{after}
 use Rattle.system.proofs.Truth.{T_of, T_true, clauses_each, clauses_all}
 use Rattle.sieve.specs.Marks.{marked, Marks, Within, union, none}
 use Rattle.sieve.proofs.Marked.{none_marked, union_marked, union_left, union_right}
-use Rattle.candidate_sieve.specs.Candidates.{chosen, Closed}
+use Rattle.candidate_sieve.specs.Candidates.{chosen, TogetherClosed}
 
 -- the marked ones by their places
 pub chosen_from : (M : List ℕ) (cs : List (List ℕ)) (c : List ℕ) → Member c (chosen M cs) → (i : ℕ) × (i < length cs) × T (marked M i) × (get_or cs i [] ≡ c)
@@ -38,12 +38,12 @@ chosen_within a cs M N w t =
     let r = chosen_from M cs c m in
     clauses_each a (chosen N cs) c t (subst (λ d. Member d (chosen N cs)) r.3 (chosen_at N cs r.0 r.1 (w r.0 r.2))))
 
-pub closed_none : (cs held : List (List ℕ)) → Closed cs held (none (length cs))
-closed_none cs held a h t =
+pub none_closed : (cs held : List (List ℕ)) → TogetherClosed cs held (none (length cs))
+none_closed cs held a h t =
     clauses_all (after a) (chosen (none (length cs)) cs) (λ c m. let r = chosen_from (none (length cs)) cs c m in absurd (none_marked (length cs) r.0 r.2))
 
-pub closed_union : (cs held : List (List ℕ)) (M N : List ℕ) → Marks (length cs) M → Marks (length cs) N → Closed cs held M → Closed cs held N → Closed cs held (union M N)
-closed_union cs held M N m n f g a h t = clauses_all (after a) (chosen (union M N) cs) (λ c k. here c (chosen_from (union M N) cs c k))
+pub union_closed : (cs held : List (List ℕ)) (M N : List ℕ) → Marks (length cs) M → Marks (length cs) N → TogetherClosed cs held M → TogetherClosed cs held N → TogetherClosed cs held (union M N)
+union_closed cs held M N m n f g a h t = clauses_all (after a) (chosen (union M N) cs) (λ c k. here c (chosen_from (union M N) cs c k))
   where
     here : (c : List ℕ) → ((i : ℕ) × (i < length cs) × T (marked (union M N) i) × (get_or cs i [] ≡ c)) → T (clause (after a) c)
     here c (i, l, y, e) =

@@ -13,9 +13,9 @@ pub record Breaks (held cs : List (List ℕ)) (t : ℕ) : Type 0 where
   pub broken : T (not (clauses (bit t) cs))
 
 -- such a state, or that the clauses are true after every step that the held clauses admit
-abbrev pub Broken : List (List ℕ) → List (List ℕ) → Option ℕ → Type 0
-Broken held cs (Some t) = Breaks held cs t
-Broken held cs None = (a : Valuation) → T (clauses a held) → T (clauses (after a) cs)
+abbrev pub Found : List (List ℕ) → List (List ℕ) → Option ℕ → Type 0
+Found held cs (Some t) = Breaks held cs t
+Found held cs None = (a : Valuation) → T (clauses a held) → T (clauses (after a) cs)
 
 -- the marks without those of the clauses that are false in a state
 abbrev pub unmarked : ℕ → List ℕ → List (List ℕ) → List ℕ

@@ -9,8 +9,8 @@ use Rattle.candidate_sieve.specs.Candidates.{chosen}
 
 -- where a solver holds what it does of a system and more clauses over its relays, the closed marks are those of whose
 -- clauses consecution relative to the clauses met holds
-abbrev pub ClosedIsConsecution : (List (List ℕ) → List (List ℕ) → List ℕ → Type 0) → System → Result (List (List ℕ)) WorkFault → Type 0
-ClosedIsConsecution closed c (Err f) = Unit {0}
-ClosedIsConsecution closed c (Ok cs) =
+abbrev pub TogetherIsConsecution : (List (List ℕ) → List (List ℕ) → List ℕ → Type 0) → System → Result (List (List ℕ)) WorkFault → Type 0
+TogetherIsConsecution closed c (Err f) = Unit {0}
+TogetherIsConsecution closed c (Ok cs) =
     (more : List (List ℕ)) (M : List ℕ) → AllByRecursion (OverRelays c.n) more
     → closed cs (loaded c more) M ↔ Consecution c (met c more) (λ s. clauses (bit s) (chosen M cs))

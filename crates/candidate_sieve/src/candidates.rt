@@ -3,7 +3,7 @@ ghost use Rattle.std.specs.Prelude.{◌≡◌};
 ghost use Rattle.lists.specs.Lists.{clauses_of};
 ghost use Rattle.layout.specs.Spelling.{Admitted};
 ghost use Rattle.clauses.specs.Candidates.{gathered, read_candidates as candidates_read, ReadAsSpelled};
-ghost use Rattle.candidate_sieve.specs.Read.{ClosedIsConsecution};
+ghost use Rattle.candidate_sieve.specs.Read.{TogetherIsConsecution};
 
 use cases::Case;
 use clauses::read_candidates;
@@ -46,16 +46,9 @@ impl<'a> CandidateSieve<'a> {
     // ones.
     pub fn read(case: &Case, bytes: &'a [u8]) -> Result<CandidateSieve<'a>, WorkFault>
         ensures value { result ≡ candidates_read case.now.n bytes.now }
-        ensures consecution { ClosedIsConsecution ⟦<CandidateSieve<'static> as Sieve>⟧.closed case.now result }
+        ensures consecution { TogetherIsConsecution ⟦<CandidateSieve<'static> as Sieve>⟧.closed case.now result }
     {
         let list = read_list(case, bytes)?;
         Ok(CandidateSieve { list })
-    }
-
-    // The candidates.
-    pub fn candidates(&self) -> ClauseList<'a>
-        ensures { clauses_of result ≡ self.now }
-    {
-        self.list
     }
 }

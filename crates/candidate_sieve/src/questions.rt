@@ -6,7 +6,7 @@ ghost use Rattle.system.specs.Systems.{OverRelays, Rising};
 ghost use Rattle.system.specs.Preserving.{after};
 ghost use Rattle.solver.specs.Answers.{literals, fits, need_of, spare};
 ghost use Rattle.lists.specs.Lists.{clauses_of};
-ghost use Rattle.candidate_sieve.specs.Questions.{Broken, unmarked, Settled};
+ghost use Rattle.candidate_sieve.specs.Questions.{Found, unmarked, Settled};
 ghost use Rattle.candidate_sieve.specs.Candidates.{Formed, chosen};
 
 use lists::ClauseList;
@@ -66,7 +66,7 @@ fn state_after(low: u64) -> u32
 // The state after a step that the held clauses admit and that makes the clause false, if it is marked and there is one.
 fn ask_if_marked<S: Solver>(solver: &mut S, candidate: &[u8], mark: u8) -> Option<u32>
     requires { Formed candidate.now }
-    ensures answer { Broken (S.Solver.held solver.old) (chosen (mark ∷ []) (candidate.now ∷ [])) result }
+    ensures answer { Found (S.Solver.held solver.old) (chosen (mark ∷ []) (candidate.now ∷ [])) result }
     ensures held { S.Solver.held solver.new ≡ S.Solver.held solver.old }
     ensures capacity { S.Solver.capacity solver.new ≡ S.Solver.capacity solver.old }
 {
@@ -84,7 +84,7 @@ fn ask_if_marked<S: Solver>(solver: &mut S, candidate: &[u8], mark: u8) -> Optio
 // The state after a step that the held clauses admit and that makes a marked clause false, if there is one.
 pub(crate) fn find_broken<S: Solver>(solver: &mut S, list: ClauseList, marks: &[u8]) -> Option<u32>
     requires { AllByRecursion Formed (clauses_of list) }
-    ensures answer { Broken (S.Solver.held solver.old) (chosen marks.now (clauses_of list.entry)) result }
+    ensures answer { Found (S.Solver.held solver.old) (chosen marks.now (clauses_of list.entry)) result }
     ensures held { S.Solver.held solver.new ≡ S.Solver.held solver.old }
     ensures capacity { S.Solver.capacity solver.new ≡ S.Solver.capacity solver.old }
 {

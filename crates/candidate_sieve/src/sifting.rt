@@ -2,24 +2,25 @@
 // clauses before a step, are all true after it.
 ghost use Rattle.std.specs.Prelude.{◌≡◌, length};
 ghost use Rattle.solver.specs.Answers.{need_of};
-ghost use Rattle.candidate_sieve.specs.Candidates.{Closed};
-ghost use Rattle.candidate_sieve.specs.Laws.{closed_none, closed_union};
+ghost use Rattle.candidate_sieve.specs.Candidates.{TogetherClosed};
+ghost use Rattle.candidate_sieve.specs.Laws.{none_closed, union_closed};
 
 use crate::candidates::CandidateSieve;
 use crate::questions::{add_marked, find_broken, settle};
+use clauses::MOST_CANDIDATES;
 use faults::WorkFault;
 use loading::need;
 use sieve::{Sieve, Sifting, check};
 use solver::{Capacity, Solver};
 
 impl<'a> Sieve for CandidateSieve<'a> {
-    const MOST: usize = 512;
+    const MOST: usize = MOST_CANDIDATES;
 
     ghost limit = { 512 };
 
     ghost places = { λ s. length s };
 
-    ghost closed = { Closed };
+    ghost closed = { TogetherClosed };
 
     ghost need = { need_of };
 
@@ -46,7 +47,10 @@ impl<'a> Sieve for CandidateSieve<'a> {
         Ok(settle(self.list, broken, marks))
     }
 
-    ghost none_closed = { closed_none };
+    ghost none_closed = { none_closed };
 
-    ghost union_closed = { closed_union };
+    ghost union_closed = { union_closed };
 }
+
+// no definition can be tied to the constant itself where the type has a lifetime
+const _: () = prove!(<CandidateSieve<'static> as Sieve>::MOST == 512);

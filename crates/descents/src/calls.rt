@@ -1,12 +1,13 @@
-// A case and a list of candidates lie in bytes as the library reads them. Marks are a byte a place, 1 for marked and 0 for
+// The two calls for C. A case and a list of candidates lie in bytes as the library reads them. Marks are a byte a place, 1 for marked and 0 for
 // not.
-ghost use Rattle.std.specs.Prelude.{◌≡◌, ◌⊎◌, [], IfOk, IfErr, MatchResult, Result, Some};
+ghost use Rattle.std.specs.Prelude.{◌≡◌, ◌≢◌, ◌⊎◌, true, false, [], IfOk, IfErr, OnErr, Result};
+ghost use Rattle.solver.specs.Answers.{need_of, spare};
+ghost use Rattle.faults.specs.declared.case.CaseFault.TheVariants.{NoMemory};
 ghost use Rattle.faults.specs.declared.work.WorkFault.{WorkFault};
+ghost use Rattle.faults.specs.declared.work.WorkFault.TheVariants.{InCase, NoCapacity};
 ghost use Rattle.system.specs.Preserving.{loaded};
-ghost use Rattle.sieve.specs.Marks.{Largest};
-ghost use Rattle.sieve.specs.Sieves.{marks_fault};
 ghost use Rattle.descents.specs.Codes.{code};
-ghost use Rattle.descents.specs.Outcomes.{Scarce, LiteralsTold, CandidatesTold};
+ghost use Rattle.descents.specs.Outcomes.{room, DescentTold, LiteralsTold, CandidatesTold};
 
 use crate::outcome::code_of;
 use crate::tally::Tally;
@@ -20,7 +21,8 @@ use sieve::{Sieve, descend};
 use solver::{Capacity, Solver};
 use std::alloc::Global;
 
-// Room for any case and any list of candidates.
+// As many clauses as a case may have in its step list and its safety list, and a list of candidates; and as many literals as
+// a case has bytes, and so many candidates over 32 relays.
 const ROOM: Capacity = Capacity {
     clauses: 1024 + 256 + 512,
     literals: 32768 + 512 * 32,
@@ -29,7 +31,9 @@ const ROOM: Capacity = Capacity {
 // A solver that holds the step clauses and safety clauses of the case.
 fn loaded_solver(heap: Global, case: &Case) -> Result<Tally<Propagating>, WorkFault>
     ensures held { IfOk result (λ s. ⟦<Tally<Propagating> as Solver>⟧.held s ≡ loaded case.now []) }
-    ensures scarce { IfErr result Scarce }
+    ensures capacity { IfOk result (λ s. ⟦<Tally<Propagating> as Solver>⟧.capacity s ≡ room) }
+    ensures fits { IfOk result (λ s. spare (need_of (loaded case.now [])) [] room ≡ true) }
+    ensures scarce { IfErr result (λ f. (f ≡ InCase NoMemory) ⊎ ((f ≡ NoCapacity) × (spare (need_of (loaded case.now [])) [] room ≡ false))) }
 {
     let made = Propagating::new(heap, ROOM).map_err(CaseFault::from)?;
     let mut solver = Tally::new(made);
@@ -37,7 +41,7 @@ fn loaded_solver(heap: Global, case: &Case) -> Result<Tally<Propagating>, WorkFa
     Ok(solver)
 }
 
-// Descends over a sieve for a case, and says how often the solver was asked.
+// Descends over a sieve for a case, and then says how often the solver was asked.
 fn descended<V: Sieve>(
     heap: Global,
     case: &Case,
@@ -45,7 +49,8 @@ fn descended<V: Sieve>(
     marks: &mut [u8],
     asked: &mut u64,
 ) -> Result<(), WorkFault>
-    ensures { MatchResult result (λ _. Largest (V.Sieve.places sieve.now) (V.Sieve.closed sieve.now (loaded case.now [])) marks.old marks.new) (λ f. (marks.new ≡ marks.old) × ((marks_fault (V.Sieve.places sieve.now) marks.old ≡ Some f) ⊎ Scarce f)) }
+    ensures told { DescentTold case.now (V.Sieve.places sieve.now) (V.Sieve.need sieve.now) (V.Sieve.closed sieve.now (loaded case.now [])) marks.old result marks.new }
+    ensures asked { OnErr result (asked.new ≡ asked.old) }
 {
     let mut solver = loaded_solver(heap, case)?;
     descend(sieve, &mut solver, marks)?;
@@ -60,7 +65,8 @@ fn literal_descent(
     marks: &mut [u8],
     asked: &mut u64,
 ) -> Result<(), WorkFault>
-    ensures { LiteralsTold bytes.now state marks.old result marks.new }
+    ensures told { LiteralsTold bytes.now state marks.old result marks.new }
+    ensures asked { OnErr result (asked.new ≡ asked.old) }
 {
     let case = Case::read(heap, bytes)?;
     let sieve = LiteralSieve::new(&case, state);
@@ -74,7 +80,8 @@ fn candidate_descent(
     marks: &mut [u8],
     asked: &mut u64,
 ) -> Result<(), WorkFault>
-    ensures { CandidatesTold bytes.now listed.now marks.old result marks.new }
+    ensures told { CandidatesTold bytes.now listed.now marks.old result marks.new }
+    ensures asked { OnErr result (asked.new ≡ asked.old) }
 {
     let case = Case::read(heap, bytes)?;
     let sieve = CandidateSieve::read(&case, listed)?;
@@ -82,7 +89,7 @@ fn candidate_descent(
 }
 
 // Leaves marked, of the relays marked, the most whose literals false at the state make up a clause that is true after every
-// step of the case from a safe state where it is true. Says in `asked` how many questions the solver was asked.
+// step of the case from a safe state where it is true. Then says in `asked` how many questions the solver was asked.
 //
 // The result is 0 where the marks were descended, 1 where there was no memory, and else the number of the refusal, which
 // leaves the marks as they were.
@@ -94,7 +101,8 @@ pub extern "C" fn hokhnebi_literal_descent(
     marks: &mut [u8],
     asked: &mut u64,
 ) -> u32
-    ensures { (r : Result (Unit {0}) WorkFault) × (result ≡ code r) × LiteralsTold bytes.now state marks.old r marks.new }
+    ensures told { (r : Result (Unit {0}) WorkFault) × (result ≡ code r) × LiteralsTold bytes.now state marks.old r marks.new }
+    ensures asked { result ≢ 0 → asked.new ≡ asked.old }
 {
     code_of(literal_descent(heap, bytes, state, marks, asked))
 }
@@ -109,7 +117,8 @@ pub extern "C" fn hokhnebi_candidate_descent(
     marks: &mut [u8],
     asked: &mut u64,
 ) -> u32
-    ensures { (r : Result (Unit {0}) WorkFault) × (result ≡ code r) × CandidatesTold bytes.now listed.now marks.old r marks.new }
+    ensures told { (r : Result (Unit {0}) WorkFault) × (result ≡ code r) × CandidatesTold bytes.now listed.now marks.old r marks.new }
+    ensures asked { result ≢ 0 → asked.new ≡ asked.old }
 {
     code_of(candidate_descent(heap, bytes, listed, marks, asked))
 }

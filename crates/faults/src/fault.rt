@@ -27,7 +27,7 @@ pub trait Fault {
     }
 
     // What the refusal points at: a byte index, but for Short the count of bytes, for NoSuchClause the number that was
-    // given, and for Marks the number of the mark.
+    // given, and for Marks the number of the mark, or 0 for a wrong number of them.
     fn place(&self) -> usize
         ensures { result ≡ (refusal self.now).place }
     {

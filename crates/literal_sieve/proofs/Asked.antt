@@ -1,12 +1,12 @@
 -- What an answer says of marks, where their clause is held too and its literals are assumed false after a step. Assumes nothing.
-use Rattle.std.proofs.Common.{◌≡◌, ℕ, ◌+◌, ◌%◌, ◌^◌, ◌<◌, ◌≤◌, Bool, true, false, cond, not, T, List, [], ◌∷◌, ◌++◌, length, get_or, None, Ok, Option, sym, refl, ap, ap₂, subst, subst₂, ◌∙◌, inl, inr, arith}
+use Rattle.std.proofs.Common.{◌≡◌, ℕ, ◌+◌, ◌%◌, ◌^◌, ◌<◌, ◌≤◌, Bool, true, false, cond, not, T, List, [], ◌∷◌, ◌++◌, length, get_or, None, Ok, Option, sym, refl, ap, subst, subst₂, ◌∙◌, inl, inr, arith}
 use mathlib.Core.Bool.{beq}
-use lib.Dec.{not_T}
-use Rattle.std.proofs.lemmas.Bool.{true≢false, and_parts, and_from, leb-true, le-leb, lt-ltb, cond-true}
-use Rattle.system.specs.Literals.{Valuation, bit, clause, size}
+use Rattle.std.proofs.lemmas.Bool.{true≢false, lt-ltb, cond-true}
+use Rattle.std.proofs.lemmas.Bool.Decides.{nat_tests}
+use Rattle.system.specs.Literals.{Valuation, bit, clause}
 use Rattle.system.specs.Spelling.{spelled}
 use Rattle.system.specs.Preserving.{after}
-use Rattle.system.proofs.Truth.{T_true, T_false, cases_T, alone_clause, clause_alone, clauses_parts, clauses_append}
+use Rattle.system.proofs.Truth.{T_of, T_true, T_false, cases_T, alone_clause, clause_alone, clauses_parts, clauses_append}
 use Rattle.system.proofs.Bits.{low_bits}
 use Rattle.system.proofs.Spelled.{length_spelled}
 use Rattle.solver.specs.Answers.{Satisfied, Answered, model, fits}
@@ -14,40 +14,30 @@ use Rattle.solver.specs.declared.capacity.Capacity.{Capacity}
 use Rattle.solver.specs.declared.answer.Answer.{Answer}
 use Rattle.solver.specs.declared.answer.Answer.TheVariants.{Yes, No}
 use Rattle.faults.specs.Firsts.{unless}
-use Rattle.faults.proofs.Firsts.{unless_ok}
 use Rattle.faults.specs.declared.work.WorkFault.{WorkFault}
 use Rattle.sieve.specs.Marks.{marked, Marks, Within, Reduced}
 use Rattle.solver.specs.Answers.{spare}
 use Rattle.sieve.specs.Sieves.{sift_fault, Sifted}
 use Rattle.sieve.specs.declared.sifting.Sifting.TheVariants.{Closed, Fewer}
-use Rattle.sieve.proofs.Marked.{small, all_small, marked_is, is_marked, marked_below}
-use Rattle.sieve.proofs.MarksChecked.{sift_marks, sift_spare}
-use Rattle.literal_sieve.specs.Literal.{AtState, false_at, closed, need}
+use Rattle.sieve.proofs.Marked.{marked_below}
+use Rattle.sieve.proofs.Reducing.{reduced}
+use Rattle.sieve.proofs.MarksChecked.{sift_marks, sift_spare, passed}
+use Rattle.literal_sieve.specs.Literal.{AtState, false_at, ClauseClosed, need}
 use Rattle.literal_sieve.specs.Laws.{false_at_some, some_false_at}
-use Rattle.literal_sieve.proofs.Written.{spelled_false, spelled_true, spelled_each, each_spelled}
+use Rattle.literal_sieve.proofs.Written.{spelled_negated, spelled_plain, spelled_each, each_spelled}
 
 -- two values that differ, and two that agree
 clash : (b : Bool) → b ≡ not b → ⊥
-clash true e = true≢false e
-clash false e = true≢false (sym e)
+clash b e = grind arith
 
 same_value : (a b : Bool) → (a ≡ not b → ⊥) → a ≡ b
-same_value true true n = refl
-same_value true false n = absurd (n refl)
-same_value false true n = absurd (n refl)
-same_value false false n = refl
+same_value a b n = grind arith
 
 beq_clash : (a b : Bool) → a ≡ not b → beq a b ≡ false
-beq_clash true true e = absurd (true≢false e)
-beq_clash true false e = refl
-beq_clash false true e = refl
-beq_clash false false e = absurd (true≢false (sym e))
+beq_clash a b e = grind arith
 
 beq_agree : (a b : Bool) → a ≡ b → beq a b ≡ true
-beq_agree true true e = refl
-beq_agree true false e = absurd (true≢false e)
-beq_agree false true e = absurd (true≢false (sym e))
-beq_agree false false e = refl
+beq_agree a b e = grind arith
 
 -- the relays before a step in the low half of a model
 model_before : (low high i : ℕ) → i < 32 → bit (low % 2 ^ 32) i ≡ model low high i
@@ -55,7 +45,7 @@ model_before low high i h = low_bits low i 32 h ∙ sym (cond-true _ _ _ (lt-ltb
 
 module _ (s : AtState) (few : s.n ≤ 32) (held : List (List ℕ)) (M : List ℕ) (m : Marks s.n M) where
   -- a no: no step leads from where the clause is true to where it is false
-  no_closed : ((a : Valuation) → Satisfied a (held ++ false_at s.n s.state M ∷ []) (spelled 32 s.n (marked M) (bit s.state)) → ⊥) → closed s held M
+  no_closed : ((a : Valuation) → Satisfied a (held ++ false_at s.n s.state M ∷ []) (spelled 32 s.n (marked M) (bit s.state)) → ⊥) → ClauseClosed s held M
   no_closed none a h t =
       elim (cases_T (clause (after a) (false_at s.n s.state M))) [
         | inl y ↦ clause_alone (after a) (false_at s.n s.state M) y
@@ -70,39 +60,19 @@ module _ (s : AtState) (few : s.n ≤ 32) (held : List (List ℕ)) (M : List ℕ
   -- a yes: the marks left are of the relays that are before the step as in the state
   module _ (a : Valuation) (y : Satisfied a (held ++ false_at s.n s.state M ∷ []) (spelled 32 s.n (marked M) (bit s.state))) (p : ℕ) (is : (i : ℕ) → i < 32 → bit p i ≡ a i)
       (out : List ℕ) (long : length out ≡ length M) (at : (k : ℕ) → k < length out → get_or out k 0 ≡ cond (beq (bit p k) (bit s.state k)) (get_or M k 0) 0) where
-    cond_small : (b : Bool) (x : ℕ) → x < 2 → cond b x 0 < 2
-    cond_small true x h = h
-    cond_small false x h = omega arith
-
-    cond_one : (b : Bool) (x : ℕ) → cond b x 0 ≡ 1 → (b ≡ true) × (x ≡ 1)
-    cond_one true x e = (refl, e)
-    cond_one false x e = absurd (let z : ⊥ = omega arith in z)
-
-    marks_out : Marks s.n out
-    marks_out =
-        (long ∙ m.0, all_small out (λ i h. rw (at i h) (cond_small (beq (bit p i) (bit s.state i)) (get_or M i 0) (small s.n M m i (omega (arith, m.0))))))
-
-    -- a place that is still marked
-    left : (i : ℕ) → T (marked out i) → (beq (bit p i) (bit s.state i) ≡ true) × (get_or M i 0 ≡ 1)
-    left i t = cond_one _ _ (sym (at i (marked_below out i t)) ∙ marked_is out i t)
-
-    within_given : Within out M
-    within_given i t = is_marked M i (left i t).1
-
     -- a marked literal is true before the step
-    one_less : (i : ℕ) × T (marked M i) × T (not (marked out i))
-    one_less =
+    one_true : (i : ℕ) × T (marked M i) × T (not (beq (bit p i) (bit s.state i)))
+    one_true =
         let h = clauses_parts a held (false_at s.n s.state M ∷ []) y.0 in
         let r = false_at_some s.n s.state a M (alone_clause a (false_at s.n s.state M) h.1) in
         let e : bit p r.0 ≡ not (bit s.state r.0) = is r.0 (omega (arith, r.1)) ∙ r.3 in
-        (r.0, r.2, not_T _ (λ t. true≢false (sym (left r.0 t).0 ∙ beq_clash _ _ e)))
+        (r.0, r.2, subst (λ b. T (not b)) (sym (beq_clash _ _ e)) tt)
 
     -- closed marks within those given are of relays as in the state: else their clause were true after the step too
-    kept_closed : (N : List ℕ) → Marks s.n N → closed s held N → Within N M → (i : ℕ) → T (marked N i) → T (marked out i)
-    kept_closed N k shut w i t =
-        let l : i < s.n = omega (arith, marked_below N i t, k.0) in
-        let e : bit p i ≡ bit s.state i = same_value (bit p i) (bit s.state i) (λ q. broken l (sym (is i (omega arith)) ∙ q)) in
-        is_marked out i (at i (omega (arith, m.0)) ∙ cond-true _ _ _ (beq_agree _ _ e) ∙ marked_is M i (w i t))
+    closed_kept : (N : List ℕ) → ClauseClosed s held N → Within N M → (i : ℕ) → T (marked N i) → T (beq (bit p i) (bit s.state i))
+    closed_kept N shut w i t =
+        let l : i < s.n = (let k = marked_below M i (w i t) in omega (arith, m.0)) in
+        T_of (beq_agree _ _ (same_value (bit p i) (bit s.state i) (λ q. broken l (sym (is i (omega arith)) ∙ q))))
       where
         broken : i < s.n → a i ≡ not (bit s.state i) → ⊥
         broken l q =
@@ -111,22 +81,12 @@ module _ (s : AtState) (few : s.n ≤ 32) (held : List (List ℕ)) (M : List ℕ
             let r = false_at_some s.n s.state (after a) N (alone_clause (after a) (false_at s.n s.state N) c) in
             clash (bit s.state r.0) (sym (spelled_each 32 (marked M) (bit s.state) a s.n y.1 r.0 r.1 (w r.0 r.2)) ∙ r.3)
 
-    yes_fewer : Reduced s.n (closed s held) M out
-    yes_fewer =
-        record {
-          marks = marks_out;
-          within = within_given;
-          fewer = one_less;
-          idle = λ i t f N k shut w. not_T _ (λ z. true≢false (sym (T_true _ (kept_closed N k shut w i z)) ∙ T_false _ f));
-        }
+    yes_fewer : Reduced s.n (ClauseClosed s held) M out
+    yes_fewer = reduced s.n (ClauseClosed s held) M out m long (λ i. beq (bit p i) (bit s.state i)) (λ i h. at i (omega arith)) closed_kept one_true
 
 -- a clause that the spare capacity covers is added
 spare_fits : (s : AtState) (held : List (List ℕ)) (capacity : Capacity) (d : List ℕ) → spare (need s) held capacity ≡ true → length d ≤ s.n → fits held d capacity ≡ true
-spare_fits s held capacity d e l =
-    let p = and_parts _ _ e in
-    let x = leb-true (length held + 1) capacity.clauses p.0 in
-    let y = leb-true (size held + s.n) capacity.literals p.1 in
-    and_from _ _ (lt-ltb (length held) capacity.clauses (omega arith)) (le-leb (size held + length d) capacity.literals (omega arith))
+spare_fits s held capacity d e l = grind (arith, nat_tests)
 
 -- one sifting, by what was checked, written, asked and unmarked
 module _ (s : AtState) (few : s.n ≤ 32) (held : List (List ℕ)) (capacity : Capacity) (M : List ℕ) (places : ℕ) (most : Capacity)
@@ -136,30 +96,30 @@ module _ (s : AtState) (few : s.n ≤ 32) (held : List (List ℕ)) (capacity : C
   fault = sift_fault s.n (need s) held capacity M
 
   sound : fault ≡ None
-  sound = ap₂ (λ n k. sift_fault n k held capacity M) (sym all) (sym enough) ∙ unless_ok (sift_fault places most held capacity M) x y checked
+  sound = passed s.n places (need s) most held capacity M all enough x y checked
 
   m : Marks s.n M
   m = sift_marks s.n (need s) held capacity M sound
 
   is_clause : d ≡ false_at s.n s.state M
-  is_clause = written ∙ spelled_false 0 (length M) (marked M) (bit p) ∙ ap (λ k. spelled 0 k (marked M) (λ i. not (bit p i))) m.0 ∙ ap (λ q. false_at s.n q M) same
+  is_clause = written ∙ spelled_negated 0 (length M) (marked M) (bit p) ∙ ap (λ k. spelled 0 k (marked M) (λ i. not (bit p i))) m.0 ∙ ap (λ q. false_at s.n q M) same
 
   is_negated : assumed ≡ spelled 32 s.n (marked M) (bit s.state)
-  is_negated = negated ∙ spelled_true 32 (length M) (marked M) (bit p) ∙ ap (λ k. spelled 32 k (marked M) (bit p)) m.0 ∙ ap (λ q. spelled 32 s.n (marked M) (bit q)) same
+  is_negated = negated ∙ spelled_plain 32 (length M) (marked M) (bit p) ∙ ap (λ k. spelled 32 k (marked M) (bit p)) m.0 ∙ ap (λ q. spelled 32 s.n (marked M) (bit q)) same
 
   asked : (r : Answer) → (fits held d capacity ≡ true → Answered (held ++ d ∷ []) assumed r) → Answered (held ++ false_at s.n s.state M ∷ []) (spelled 32 s.n (marked M) (bit s.state)) r
   asked r ask =
       let f : fits held d capacity ≡ true = spare_fits s held capacity d (sift_spare s.n (need s) held capacity M sound) (rw is_clause (length_spelled 0 (marked M) (λ i. not (bit s.state i)) s.n)) in
       subst₂ (λ x y. Answered (held ++ x ∷ []) y r) is_clause is_negated (ask f)
 
-  pub sifted_closed : (fits held d capacity ≡ true → Answered (held ++ d ∷ []) assumed No) → Sifted s.n (closed s held) fault M (Ok Closed) M
+  pub sifted_closed : (fits held d capacity ≡ true → Answered (held ++ d ∷ []) assumed No) → Sifted s.n (ClauseClosed s held) fault M (Ok Closed) M
   sifted_closed ask =
-      subst (λ (o : Option WorkFault). Sifted s.n (closed s held) o M (Ok Closed) M) (sym sound) (no_closed s few held M m (λ a y. asked No ask a y), refl)
+      subst (λ (o : Option WorkFault). Sifted s.n (ClauseClosed s held) o M (Ok Closed) M) (sym sound) (no_closed s few held M m (λ a y. asked No ask a y), refl)
 
   pub sifted_fewer : (low high : ℕ) → (fits held d capacity ≡ true → Answered (held ++ d ∷ []) assumed (Yes low high)) → (b : ℕ) → b ≡ low % 2 ^ 32
       → (out : List ℕ) → length out ≡ length M → ((k : ℕ) → k < length out → get_or out k 0 ≡ cond (beq (bit b k) (bit p k)) (get_or M k 0) 0)
-      → Sifted s.n (closed s held) fault M (Ok Fewer) out
+      → Sifted s.n (ClauseClosed s held) fault M (Ok Fewer) out
   sifted_fewer low high ask b is out long at =
-      subst (λ (o : Option WorkFault). Sifted s.n (closed s held) o M (Ok Fewer) out) (sym sound)
+      subst (λ (o : Option WorkFault). Sifted s.n (ClauseClosed s held) o M (Ok Fewer) out) (sym sound)
       (yes_fewer s few held M m (model low high) (asked (Yes low high) ask) b (λ i h. ap (λ x. bit x i) is ∙ model_before low high i h) out long
       (λ k h. at k h ∙ ap (λ q. cond (beq (bit b k) (bit q k)) (get_or M k 0) 0) same))

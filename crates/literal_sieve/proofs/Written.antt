@@ -1,5 +1,5 @@
 -- Literals of marked relays, written for a solver: what they are, and when all are true. Assumes nothing.
-use Rattle.std.proofs.Common.{◌≡◌, ℕ, ◌+◌, ◌<◌, Bool, true, false, not, T, List, [], ◌∷◌, sym, refl, ap, subst, inl, inr}
+use Rattle.std.proofs.Common.{arith, ◌≡◌, ℕ, ◌+◌, ◌<◌, Bool, true, false, not, T, List, [], ◌∷◌, sym, refl, ap, subst, inl, inr}
 use mathlib.Core.Bool.{beq}
 use mathlib.Core.Path.{fun_ext}
 use Rattle.system.specs.Literals.{Valuation, literal, Member}
@@ -9,19 +9,17 @@ use Rattle.system.proofs.Spelled.{literal_value, spelled_member, member_spelled}
 use Rattle.solver.specs.Answers.{literals}
 
 beq_not : (b : Bool) → beq b false ≡ not b
-beq_not true = refl
-beq_not false = refl
+beq_not b = grind arith
 
 beq_is : (b : Bool) → beq b true ≡ b
-beq_is true = refl
-beq_is false = refl
+beq_is b = grind arith
 
 -- the literals that are false, and those that are true
-pub spelled_false : (first n : ℕ) (inside value : ℕ → Bool) → spelled first n inside (λ i. beq (value i) false) ≡ spelled first n inside (λ i. not (value i))
-spelled_false first n inside value = ap (spelled first n inside) (fun_ext (λ i. beq_not (value i)))
+pub spelled_negated : (first n : ℕ) (inside value : ℕ → Bool) → spelled first n inside (λ i. beq (value i) false) ≡ spelled first n inside (λ i. not (value i))
+spelled_negated first n inside value = ap (spelled first n inside) (fun_ext (λ i. beq_not (value i)))
 
-pub spelled_true : (first n : ℕ) (inside value : ℕ → Bool) → spelled first n inside (λ i. beq (value i) true) ≡ spelled first n inside value
-spelled_true first n inside value = ap (spelled first n inside) (fun_ext (λ i. beq_is (value i)))
+pub spelled_plain : (first n : ℕ) (inside value : ℕ → Bool) → spelled first n inside (λ i. beq (value i) true) ≡ spelled first n inside value
+spelled_plain first n inside value = ap (spelled first n inside) (fun_ext (λ i. beq_is (value i)))
 
 literals_each : (a : Valuation) (ls : List ℕ) (l : ℕ) → Member l ls → T (literals a ls) → T (literal a l)
 literals_each a [] l m t = absurd m

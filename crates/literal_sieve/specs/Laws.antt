@@ -7,7 +7,7 @@ use Rattle.system.proofs.Truth.{alone_clause, clause_alone}
 use Rattle.system.proofs.Spelled.{spelled_true, true_spelled}
 use Rattle.sieve.specs.Marks.{marked, Marks, Within, none, union}
 use Rattle.sieve.proofs.Marked.{none_marked, union_marked, union_left, union_right}
-use Rattle.literal_sieve.specs.Literal.{AtState, false_at, closed}
+use Rattle.literal_sieve.specs.Literal.{AtState, false_at, ClauseClosed}
 
 module _ (n s : ℕ) where
   -- the marked clause is true where a marked relay is not as in the state
@@ -22,10 +22,10 @@ module _ (n s : ℕ) where
 
 -- no clause is true with no relay marked; and a union's is true where one of the two is
 module _ (s : AtState) (held : List (List ℕ)) where
-  pub none_closed : closed s held (none s.n)
+  pub none_closed : ClauseClosed s held (none s.n)
   none_closed a h t = absurd (let r = false_at_some s.n s.state a (none s.n) (alone_clause a _ t) in none_marked s.n r.0 r.2)
 
-  pub union_closed : (M N : List ℕ) → Marks s.n M → Marks s.n N → closed s held M → closed s held N → closed s held (union M N)
+  pub union_closed : (M N : List ℕ) → Marks s.n M → Marks s.n N → ClauseClosed s held M → ClauseClosed s held N → ClauseClosed s held (union M N)
   union_closed M N m k f g a h t =
       let r = false_at_some s.n s.state a (union M N) (alone_clause a _ t) in
       elim (union_marked s.n M N m k r.0 r.2) [

@@ -18,8 +18,8 @@ abbrev pub false_at : ℕ → ℕ → List ℕ → List ℕ
 false_at n s M = spelled 0 n (marked M) (λ i. not (bit s i))
 
 -- marks are closed where their clause, true with the held clauses before a step, is true after it
-abbrev pub closed : AtState → List (List ℕ) → List ℕ → Type 0
-closed s held M = Preserved held (false_at s.n s.state M ∷ [])
+abbrev pub ClauseClosed : AtState → List (List ℕ) → List ℕ → Type 0
+ClauseClosed s held M = Preserved held (false_at s.n s.state M ∷ [])
 
 -- sifting adds their clause
 abbrev pub need : AtState → Capacity

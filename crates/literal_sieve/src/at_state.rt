@@ -1,6 +1,6 @@
 // The sieve of the literals of a case that are false at a state.
 ghost use Rattle.std.specs.Prelude.{◌≡◌};
-ghost use Rattle.literal_sieve.specs.Literal.{closed, need, ClosedIsConsecution};
+ghost use Rattle.literal_sieve.specs.Literal.{ClauseClosed, need, ClosedIsConsecution};
 ghost use Rattle.literal_sieve.specs.Laws.{none_closed, union_closed};
 
 use crate::asking::ask;
@@ -52,7 +52,7 @@ impl Sieve for LiteralSieve {
 
     ghost places = { λ s. s.n };
 
-    ghost closed = { closed };
+    ghost closed = { ClauseClosed };
 
     ghost need = { need };
 
@@ -92,3 +92,5 @@ impl Sieve for LiteralSieve {
 
     ghost union_closed = { union_closed };
 }
+
+const _: () = prove!(<LiteralSieve as Sieve>::MOST == 32);

@@ -33,6 +33,7 @@ pub(crate) fn write_literals(
     let mut count = 0;
     for (i, mark) in marks.iter().enumerate() {
         if *mark == 1 {
+            // stays a cast, here and below: there are at most 32 relays
             let relay = i as u8;
             out[count] = literal_at(state, first, relay, truth);
             count += 1;
@@ -58,5 +59,6 @@ pub(crate) fn unmark_differing(marks: &mut [u8], state: u32, other: u32)
 pub(crate) fn state_before(low: u64) -> u32
     ensures { result ≡ low % 2 ^ 32 }
 {
+    // stays a cast: the remainder fits
     (low % 0x1_0000_0000) as u32
 }

@@ -20,12 +20,6 @@ module _ (held cs : List (List ℕ)) (capacity : Capacity) (room : spare (need_o
       let g = ap size e in
       and_from _ _ (lt-ltb (length now) capacity.clauses (omega arith)) (le-leb (size now + length c) capacity.literals (omega arith))
 
-  pub next_held : (c : List ℕ) (rest : List (List ℕ)) → left ≡ c ∷ rest → (now ++ c ∷ []) ++ rest ≡ held ++ cs
-  next_held c rest e = append_assoc now (c ∷ []) rest ∙ ap (λ x. now ++ x) (sym e) ∙ all
-
-  pub all_held : left ≡ [] → now ≡ held ++ cs
-  all_held e = sym (append-nil now) ∙ ap (λ x. now ++ x) (sym e) ∙ all
-
 -- two lists, one after the other: room for both is room for the first, and then for the second
 pub spare_first : (xs ys : List (List ℕ)) (capacity : Capacity) → spare (need_of xs) [] capacity ≡ false → spare (need_of (xs ++ (ys ++ []))) [] capacity ≡ false
 spare_first xs ys capacity h =

@@ -1,3 +1,4 @@
 pub mod Marked
 pub mod MarksChecked
 pub mod Descents
+pub mod Reducing

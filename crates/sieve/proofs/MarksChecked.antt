@@ -1,27 +1,14 @@
 -- The fault of marks, found from the front on, and what follows where there is none. Assumes nothing.
-use Rattle.std.proofs.Common.{◌≡◌, ℕ, suc, ◌+◌, ◌<◌, ◌≤◌, true, false, List, [], ◌∷◌, length, get_or, drop, Some, None, refl, ap, arith, add-one, drop-cons, drop_of_length-le, nat_lt}
+use Rattle.std.proofs.Common.{◌≡◌, ℕ, suc, ◌<◌, true, List, [], ◌∷◌, length, None, Ok, sym, refl, ap₂, ◌∙◌, nat_lt}
 use Rattle.std.specs.List.{AllByRecursion}
 use Rattle.std.proofs.lemmas.Bool.{lt-ltb, ltb-true, eqb-true, eq-eqb}
-use Rattle.faults.specs.Firsts.{unmet}
-use Rattle.faults.proofs.Firsts.{or_none, unmet_none}
+use Rattle.faults.specs.Firsts.{unmet, unless}
+use Rattle.faults.proofs.Firsts.{or_none, unmet_none, unless_ok}
 use Rattle.faults.specs.declared.work.WorkFault.TheVariants.{Marks as BadMarks, NoCapacity}
 use Rattle.solver.specs.declared.capacity.Capacity.{Capacity}
 use Rattle.sieve.specs.Marks.{Marks}
 use Rattle.solver.specs.Answers.{spare}
 use Rattle.sieve.specs.Sieves.{bad_mark, marks_fault, sift_fault}
-
--- one mark on: it is 0 or 1, or it is the first that is not
-pub mark_passed : (M : List ℕ) (i : ℕ) → i < length M → get_or M i 0 ≤ 1 → bad_mark i (drop i M) ≡ bad_mark (i + 1) (drop (i + 1) M)
-mark_passed M i h l = rw (add-one, drop-cons M i 0 h, lt-ltb (get_or M i 0) 2 (omega arith)) refl
-
-pub mark_found : (M : List ℕ) (i : ℕ) → i < length M → 1 < get_or M i 0 → bad_mark i (drop i M) ≡ Some (BadMarks i)
-mark_found M i h l = rw (drop-cons M i 0 h, ltb_not (get_or M i 0) l) refl
-  where
-    ltb_not : (x : ℕ) → 1 < x → nat_lt x 2 ≡ false
-    ltb_not x l = grind arith
-
-pub marks_passed : (M : List ℕ) (i : ℕ) → length M ≤ i → bad_mark i (drop i M) ≡ None
-marks_passed M i h = ap (bad_mark i) (drop_of_length-le M h)
 
 -- no fault is one mark a place, and the other way round
 none_bad : (i : ℕ) (M : List ℕ) → bad_mark i M ≡ None → AllByRecursion (λ x. x < 2) M
@@ -51,3 +38,9 @@ module _ (places : ℕ) (need : Capacity) (held : List (List ℕ)) (capacity : C
 
   pub sift_sound : (M : List ℕ) → Marks places M → spare need held capacity ≡ true → sift_fault places need held capacity M ≡ None
   sift_sound M m s = rw (sound_marks places M m, s) refl
+
+-- there is none where the check passed
+pub passed : (places here : ℕ) (need most : Capacity) (held : List (List ℕ)) (capacity : Capacity) (M : List ℕ) → here ≡ places → most ≡ need → (x y : Unit {0})
+    → Ok y ≡ unless (sift_fault here most held capacity M) x → sift_fault places need held capacity M ≡ None
+passed places here need most held capacity M e f x y checked =
+    ap₂ (λ n k. sift_fault n k held capacity M) (sym e) (sym f) ∙ unless_ok (sift_fault here most held capacity M) x y checked

@@ -14,8 +14,10 @@ pub trait Sieve {
     // The most places that a sieve of this kind has.
     const MOST: usize;
 
+    // The same number, for contracts.
     ghost limit: { ℕ };
 
+    // How many places there are.
     ghost places: { Self → ℕ };
 
     // Which marks are closed where a solver holds these clauses.
@@ -24,14 +26,16 @@ pub trait Sieve {
     // The spare capacity of a solver that sifting needs.
     ghost need: { Self → Capacity };
 
-    // The constant.
+    // The constant: contracts cannot cite it, and cite what this answers.
     fn limit() -> usize
         ensures { result ≡ limit };
 
+    // How many places there are, never more than the most.
     fn places(&self) -> usize
         ensures value { result ≡ places self.now }
         ensures bound { result ≤ limit };
 
+    // The spare capacity that sifting needs.
     fn need(&self) -> Capacity
         ensures { result ≡ need self.now };
 

@@ -1,5 +1,5 @@
 -- Truth of tests, of clauses by their literals, and of lists of clauses by their members. Assumes nothing.
-use Rattle.std.proofs.Common.{◌≡◌, ℕ, ◌%◌, Bool, true, false, not, ◌&&◌, ◌||◌, T, eqb, ◌⊎◌, List, [], ◌∷◌, ◌++◌, sym, refl, ap, subst, ap₂, inl, inr}
+use Rattle.std.proofs.Common.{◌≡◌, ℕ, ◌%◌, Bool, true, false, not, ◌&&◌, ◌||◌, T, eqb, ◌⊎◌, List, [], ◌∷◌, ◌++◌, sym, refl, ap, subst, ap₂, inl, inr, arith}
 use mathlib.Core.Bool.{beq}
 use Rattle.std.specs.List.{AllByRecursion}
 use Rattle.system.specs.Literals.{Valuation, variable_of, literal, clause, clauses, Member, Occurs, OccursAmong}
@@ -12,24 +12,19 @@ T_true true t = refl
 T_true false t = absurd t
 
 pub T_false : (b : Bool) → T (not b) → b ≡ false
-T_false true t = absurd t
-T_false false t = refl
+T_false b t = grind arith
 
 pub cases_T : (b : Bool) → T b ⊎ T (not b)
-cases_T true = inl tt
-cases_T false = inr tt
+cases_T b = grind arith
 
 pub and_l : (a b : Bool) → T (a && b) → T a
-and_l true b t = tt
-and_l false b t = t
+and_l a b t = grind arith
 
 pub and_r : (a b : Bool) → T (a && b) → T b
-and_r true b t = t
-and_r false b t = absurd t
+and_r a b t = grind arith
 
 pub and_i : (a b : Bool) → T a → T b → T (a && b)
-and_i true b p q = q
-and_i false b p q = p
+and_i a b p q = grind arith
 
 pub or_l : (a b : Bool) → T a → T (a || b)
 or_l true b p = tt
@@ -40,14 +35,10 @@ or_r true b p = tt
 or_r false b p = p
 
 pub or_e : (a b : Bool) → T (a || b) → T a ⊎ T b
-or_e true b p = inl tt
-or_e false b p = inr p
+or_e a b p = grind arith
 
 pub beq_true : (a b : Bool) → T (beq a b) → a ≡ b
-beq_true true true t = refl
-beq_true true false t = absurd t
-beq_true false true t = absurd t
-beq_true false false t = refl
+beq_true a b t = grind arith
 
 pub beq_same : (a : Bool) → T (beq a a)
 beq_same true = tt

@@ -4,8 +4,8 @@ use Rattle.system.specs.Literals.{bit, clause}
 use Rattle.system.specs.Systems.{Initiation}
 use Rattle.system.specs.Preserving.{loaded}
 use Rattle.sieve.specs.Marks.{marked, Largest}
-use Rattle.literal_sieve.specs.Literal.{closed}
-use Rattle.candidate_sieve.specs.Candidates.{Closed}
+use Rattle.literal_sieve.specs.Literal.{ClauseClosed}
+use Rattle.candidate_sieve.specs.Candidates.{TogetherClosed}
 use Rattle.worked.specs.Systems.{follower, exchange}
 
 -- just these marks are the largest closed set within those given
@@ -13,12 +13,12 @@ abbrev pub DescendsTo : ℕ → (List ℕ → Type 0) → List ℕ → List ℕ 
 DescendsTo places family given out = (M : List ℕ) → Largest places family given M ↔ (M ≡ out)
 
 -- the literals of the follower that are false at a state
-abbrev pub False : ℕ → List ℕ → Type 0
-False s = closed (record { n = 2; state = s }) (loaded follower [])
+abbrev pub Literals : ℕ → List ℕ → Type 0
+Literals s = ClauseClosed (record { n = 2; state = s }) (loaded follower [])
 
 -- candidates for the exchange
 abbrev pub Together : List (List ℕ) → List ℕ → Type 0
-Together cs = Closed cs (loaded exchange [])
+Together cs = TogetherClosed cs (loaded exchange [])
 
 -- relay 0 is off, relay 1 is off, relay 0 is on
 abbrev pub three : List (List ℕ)
@@ -34,9 +34,9 @@ pub record WorkedDescents : Type 0 where
   -- the first alone falls too
   pub alone : DescendsTo 1 (Together ((1 ∷ []) ∷ [])) (1 ∷ []) (0 ∷ [])
   -- from the literals false where relay 1 is on: all stay, and each alone, that of relay 0 since no safe state meets it
-  pub both : DescendsTo 2 (False 2) (1 ∷ 1 ∷ []) (1 ∷ 1 ∷ [])
-  pub second : DescendsTo 2 (False 2) (0 ∷ 1 ∷ []) (0 ∷ 1 ∷ [])
-  pub first : DescendsTo 2 (False 2) (1 ∷ 0 ∷ []) (1 ∷ 0 ∷ [])
+  pub both : DescendsTo 2 (Literals 2) (1 ∷ 1 ∷ []) (1 ∷ 1 ∷ [])
+  pub second : DescendsTo 2 (Literals 2) (0 ∷ 1 ∷ []) (0 ∷ 1 ∷ [])
+  pub first : DescendsTo 2 (Literals 2) (1 ∷ 0 ∷ []) (1 ∷ 0 ∷ [])
   -- from those false where both are on: that of relay 0 falls, also alone
-  pub kept : DescendsTo 2 (False 3) (1 ∷ 1 ∷ []) (0 ∷ 1 ∷ [])
-  pub dropped : DescendsTo 2 (False 3) (1 ∷ 0 ∷ []) (0 ∷ 0 ∷ [])
+  pub kept : DescendsTo 2 (Literals 3) (1 ∷ 1 ∷ []) (0 ∷ 1 ∷ [])
+  pub dropped : DescendsTo 2 (Literals 3) (1 ∷ 0 ∷ []) (0 ∷ 0 ∷ [])

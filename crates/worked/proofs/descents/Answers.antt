@@ -8,7 +8,7 @@ use Rattle.system.proofs.Preserving.{loaded_is_consecution}
 use Rattle.sieve.specs.Marks.{marked, Marks, Within}
 use Rattle.sieve.proofs.Marked.{none_marked}
 use Rattle.worked.specs.Systems.{follower, exchange}
-use Rattle.worked.specs.Descents.{DescendsTo, False, Together, three}
+use Rattle.worked.specs.Descents.{DescendsTo, Literals, Together, three}
 use Rattle.worked.proofs.Deciding.{initiation, consecution, consecutes}
 use Rattle.worked.proofs.Outcomes.{outcome, stays, one_place, two_places, three_places}
 use Rattle.worked.proofs.descents.Goals as goal
@@ -73,27 +73,27 @@ follower_preserves c over h =
     (loaded_is_consecution follower [] (c ∷ []) follower_formed ((omega arith, tt), tt) tt (over, tt)).1
     (consecution follower (met follower []) (λ s. clauses (bit s) (c ∷ [])) h)
 
-both : DescendsTo 2 (False 2) (1 ∷ 1 ∷ []) (1 ∷ 1 ∷ [])
+both : DescendsTo 2 (Literals 2) (1 ∷ 1 ∷ []) (1 ∷ 1 ∷ [])
 unfolding spelled
-both = stays 2 (False 2) (1 ∷ 1 ∷ []) (marks2 1 1 (omega arith) (omega arith)) (follower_preserves (0 ∷ 3 ∷ []) (omega arith, (omega arith, tt)) tt)
+both = stays 2 (Literals 2) (1 ∷ 1 ∷ []) (marks2 1 1 (omega arith) (omega arith)) (follower_preserves (0 ∷ 3 ∷ []) (omega arith, (omega arith, tt)) tt)
 
-second : DescendsTo 2 (False 2) (0 ∷ 1 ∷ []) (0 ∷ 1 ∷ [])
+second : DescendsTo 2 (Literals 2) (0 ∷ 1 ∷ []) (0 ∷ 1 ∷ [])
 unfolding spelled
-second = stays 2 (False 2) (0 ∷ 1 ∷ []) (marks2 0 1 (omega arith) (omega arith)) (follower_preserves (3 ∷ []) (omega arith, tt) tt)
+second = stays 2 (Literals 2) (0 ∷ 1 ∷ []) (marks2 0 1 (omega arith) (omega arith)) (follower_preserves (3 ∷ []) (omega arith, tt) tt)
 
-first : DescendsTo 2 (False 2) (1 ∷ 0 ∷ []) (1 ∷ 0 ∷ [])
+first : DescendsTo 2 (Literals 2) (1 ∷ 0 ∷ []) (1 ∷ 0 ∷ [])
 unfolding spelled
-first = stays 2 (False 2) (1 ∷ 0 ∷ []) (marks2 1 0 (omega arith) (omega arith)) (follower_preserves (0 ∷ []) (omega arith, tt) tt)
+first = stays 2 (Literals 2) (1 ∷ 0 ∷ []) (marks2 1 0 (omega arith) (omega arith)) (follower_preserves (0 ∷ []) (omega arith, tt) tt)
 
 -- a step from the state where just relay 1 is on to that where both are
-kept : DescendsTo 2 (False 3) (1 ∷ 1 ∷ []) (0 ∷ 1 ∷ [])
+kept : DescendsTo 2 (Literals 3) (1 ∷ 1 ∷ []) (0 ∷ 1 ∷ [])
 unfolding spelled
 kept =
-    outcome 2 (False 3) (1 ∷ 1 ∷ []) (0 ∷ 1 ∷ []) (record {
+    outcome 2 (Literals 3) (1 ∷ 1 ∷ []) (0 ∷ 1 ∷ []) (record {
       marks = marks2 0 1 (omega arith) (omega arith);
       stable = follower_preserves (3 ∷ []) (omega arith, tt) tt;
       within = λ i t. within2 i t;
-      greatest = two_places (λ M. False 3 M → Within M (1 ∷ 1 ∷ []) → Within M (0 ∷ 1 ∷ [])) (λ h w i t. absurd (none_marked 2 i t)) (λ h w i t. t) (λ h w. absurd (h (step_bits 2 3 0) tt tt)) (λ h w. absurd (h (step_bits 2 3 0) tt tt));
+      greatest = two_places (λ M. Literals 3 M → Within M (1 ∷ 1 ∷ []) → Within M (0 ∷ 1 ∷ [])) (λ h w i t. absurd (none_marked 2 i t)) (λ h w i t. t) (λ h w. absurd (h (step_bits 2 3 0) tt tt)) (λ h w. absurd (h (step_bits 2 3 0) tt tt));
     })
   where
     within2 : Within (0 ∷ 1 ∷ []) (1 ∷ 1 ∷ [])
@@ -101,14 +101,14 @@ kept =
     within2 (suc zero) t = tt
     within2 (suc (suc i)) t = t
 
-dropped : DescendsTo 2 (False 3) (1 ∷ 0 ∷ []) (0 ∷ 0 ∷ [])
+dropped : DescendsTo 2 (Literals 3) (1 ∷ 0 ∷ []) (0 ∷ 0 ∷ [])
 unfolding spelled
 dropped =
-    outcome 2 (False 3) (1 ∷ 0 ∷ []) (0 ∷ 0 ∷ []) (record {
+    outcome 2 (Literals 3) (1 ∷ 0 ∷ []) (0 ∷ 0 ∷ []) (record {
       marks = marks2 0 0 (omega arith) (omega arith);
       stable = follower_preserves [] tt tt;
       within = λ i t. absurd (none_marked 2 i t);
-      greatest = two_places (λ M. False 3 M → Within M (1 ∷ 0 ∷ []) → Within M (0 ∷ 0 ∷ [])) (λ h w i t. t) (λ h w. absurd (w 1 tt)) (λ h w. absurd (h (step_bits 2 3 0) tt tt)) (λ h w. absurd (w 1 tt));
+      greatest = two_places (λ M. Literals 3 M → Within M (1 ∷ 0 ∷ []) → Within M (0 ∷ 0 ∷ [])) (λ h w i t. t) (λ h w. absurd (w 1 tt)) (λ h w. absurd (h (step_bits 2 3 0) tt tt)) (λ h w. absurd (w 1 tt));
     })
 
 pub returns : goal.returns
