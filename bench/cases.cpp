@@ -106,36 +106,41 @@ bool is_true(const Clause& clause, uint32_t state) {
     return std::any_of(clause.begin(), clause.end(), [&](uint8_t literal) { return is_on(state, literal / 2) != ((literal & 1) != 0); });
 }
 
-System functions(Random& random, unsigned relays) {
+namespace {
+
+// A case at a drawn state: what `add_relay` says of each relay, safety clauses, and what else is known up to the number.
+template <typename AddRelay>
+System made(Random& random, unsigned relays, AddRelay add_relay) {
     System system = drawn(random, relays);
     system.state = (uint32_t)random.next();
-    for (unsigned relay = 0; relay < relays; relay++) add_function(system, relay, sources(random, relays, 3), random.below(256));
+    for (unsigned relay = 0; relay < relays; relay++) add_relay(system, relay);
     add_safety(random, system);
     fill(random, system);
     return system;
 }
 
-System functions_reached(Random& random, unsigned relays) {
-    System system = functions(random, relays);
+// The same case at a state that a step leads to.
+System at_reached(System system) {
     system.state = system.reached;
     return system;
 }
+
+}  // namespace
+
+System functions(Random& random, unsigned relays) {
+    return made(random, relays, [&](System& system, unsigned relay) { add_function(system, relay, sources(random, relays, 3), random.below(256)); });
+}
+
+System functions_reached(Random& random, unsigned relays) { return at_reached(functions(random, relays)); }
 
 System latches(Random& random, unsigned relays) {
-    System system = drawn(random, relays);
-    system.state = (uint32_t)random.next();
     const unsigned tables[] = {IF_FIRST_ON, OR_FIRST_ON, SECOND_IF_FIRST_ON};
-    for (unsigned relay = 0; relay < relays; relay++) add_function(system, relay, sources(random, relays, 3, {relay}), tables[random.below(3)]);
-    add_safety(random, system);
-    fill(random, system);
-    return system;
+    return made(random, relays, [&](System& system, unsigned relay) {
+        add_function(system, relay, sources(random, relays, 3, {relay}), tables[random.below(3)]);
+    });
 }
 
-System latches_reached(Random& random, unsigned relays) {
-    System system = latches(random, relays);
-    system.state = system.reached;
-    return system;
-}
+System latches_reached(Random& random, unsigned relays) { return at_reached(latches(random, relays)); }
 
 System countdown(Random& random, unsigned relays) {
     System system = drawn(random, relays);

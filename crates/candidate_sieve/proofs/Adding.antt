@@ -1,5 +1,5 @@
 -- The marked ones of a list, added one after another. Assumes nothing.
-use Rattle.std.proofs.Common.{◌≡◌, ℕ, ◌+◌, ◌≤◌, Bool, true, false, cond, ◌⊎◌, List, [], ◌∷◌, ◌++◌, length, sym, refl, ap, ◌∙◌, subst, inl, inr, arith, append_assoc, nat_eq}
+use Rattle.std.proofs.Common.{◌≡◌, ℕ, ◌+◌, ◌≤◌, ◌⊎◌, List, [], ◌∷◌, ◌++◌, length, sym, refl, ap, ◌∙◌, subst, inl, inr, arith, append_assoc}
 use Rattle.std.proofs.lemmas.List.{append-nil, length-append}
 use Rattle.system.specs.Literals.{size}
 use Rattle.system.proofs.Sizes.{size_append}
@@ -8,11 +8,7 @@ use Rattle.candidate_sieve.specs.Candidates.{chosen}
 
 -- the first one, and those after it
 pub chosen_first : (x : ℕ) (M : List ℕ) (c : List ℕ) (cs : List (List ℕ)) → chosen (x ∷ M) (c ∷ cs) ≡ chosen (x ∷ []) (c ∷ []) ++ chosen M cs
-chosen_first x M c cs = go (nat_eq x 1)
-  where
-    go : (b : Bool) → cond b (c ∷ chosen M cs) (chosen M cs) ≡ cond b (c ∷ []) [] ++ chosen M cs
-    go true = refl
-    go false = refl
+chosen_first x M c cs = grind arith
 
 pub chosen_over : (M : List ℕ) (cs : List (List ℕ)) → (cs ≡ []) ⊎ (length M ≡ 0) → chosen M cs ≡ []
 chosen_over [] cs h = refl
@@ -21,18 +17,10 @@ chosen_over (x ∷ M) (c ∷ cs) (inl e) = absurd (let z = ap length e in let w 
 chosen_over (x ∷ M) (c ∷ cs) (inr e) = absurd (let w : ⊥ = omega arith in w)
 
 one_length : (x : ℕ) (c : List ℕ) → length (chosen (x ∷ []) (c ∷ [])) ≤ 1
-one_length x c = go (nat_eq x 1)
-  where
-    go : (b : Bool) → length (cond b (c ∷ []) []) ≤ 1
-    go true = omega arith
-    go false = omega arith
+one_length x c = grind arith
 
 one_size : (x : ℕ) (c : List ℕ) → size (chosen (x ∷ []) (c ∷ [])) ≤ length c
-one_size x c = go (nat_eq x 1)
-  where
-    go : (b : Bool) → size (cond b (c ∷ []) []) ≤ length c
-    go true = omega arith
-    go false = omega arith
+one_size x c = grind arith
 
 -- what is held, followed by the marked ones of what is left, is all that is to be held, and there is room for what is left
 pub record Adding (capacity : Capacity) (all held : List (List ℕ)) (M : List ℕ) (cs : List (List ℕ)) : Type 0 where

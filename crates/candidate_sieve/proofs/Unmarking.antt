@@ -3,7 +3,7 @@ use Rattle.std.proofs.Common.{◌≡◌, ℕ, zero, suc, ◌+◌, ◌<◌, not, 
 use Rattle.std.specs.List.{AllByRecursion}
 use Rattle.system.specs.Literals.{Valuation, bit, clause, clauses, Member}
 use Rattle.system.specs.Preserving.{after}
-use Rattle.system.proofs.Truth.{T_true, cases_T, clauses_each, clauses_parts}
+use Rattle.system.proofs.Truth.{T_true, cases_T, clauses_each, clauses_parts, all_place}
 use Rattle.sieve.specs.Marks.{marked, Marks, Within, Reduced}
 use Rattle.sieve.proofs.Marked.{marked_below}
 use Rattle.sieve.proofs.Reducing.{reduced}
@@ -40,21 +40,13 @@ some_false b (c ∷ cs) t =
     ]
 
 module _ (cs held : List (List ℕ)) (M : List ℕ) (m : Marks (length cs) M) (f : AllByRecursion Formed cs) (t : ℕ) (b : Breaks (held ++ chosen M cs) (chosen M cs) t) where
-  formed_place : (i : ℕ) → i < length cs → Formed (get_or cs i [])
-  formed_place i h = go cs i f h
-    where
-      go : (ds : List (List ℕ)) (i : ℕ) → AllByRecursion Formed ds → i < length ds → Formed (get_or ds i [])
-      go [] i g l = absurd (let z : ⊥ = omega arith in z)
-      go (d ∷ ds) zero g l = g.0
-      go (d ∷ ds) (suc i) g l = go ds i g.1 (omega arith)
-
   -- what is marked in a closed part is true in the state
   closed_true : (N : List ℕ) → TogetherClosed cs held N → Within N M → (i : ℕ) → T (marked N i) → T (clause (bit t) (get_or cs i []))
   closed_true N closed w i y =
       let l : i < length cs = (let k = marked_below M i (w i y) in let e = m.0 in omega arith) in
       let p = clauses_parts b.values held (chosen M cs) b.admitted in
       let d = closed b.values p.0 (chosen_within b.values cs N M w p.1) in
-      subst T (sym (relays_alike 32 (bit t) (after b.values) (get_or cs i []) (formed_place i l).0 b.next))
+      subst T (sym (relays_alike 32 (bit t) (after b.values) (get_or cs i []) (all_place Formed cs [] i f l).0 b.next))
       (clauses_each (after b.values) (chosen N cs) (get_or cs i []) d (chosen_at N cs i l y))
 
   -- one of the marked clauses is false in the state

@@ -1,5 +1,5 @@
 -- The descent: what holds of the marks from sifting to sifting, and at its end. Assumes nothing.
-use Rattle.std.proofs.Common.{true≢false, ◌≡◌, ℕ, zero, suc, ◌+◌, ◌<◌, ◌≤◌, Bool, true, false, cond, not, T, List, [], ◌∷◌, length, Some, None, Ok, Err, Option, Result, sym, refl, ap, ◌∙◌, subst, subst₂, inl, inr, arith, nat_eq}
+use Rattle.std.proofs.Common.{true≢false, ◌≡◌, ℕ, zero, suc, ◌+◌, ◌<◌, ◌≤◌, Bool, cond, not, T, List, [], ◌∷◌, length, Some, None, Ok, Err, Option, Result, sym, refl, ap, ◌∙◌, subst, subst₂, inl, inr, arith, nat_eq}
 use Rattle.solver.specs.declared.capacity.Capacity.{Capacity}
 use Rattle.faults.specs.declared.work.WorkFault.{WorkFault}
 use Rattle.sieve.specs.Marks.{marked, Marks, Within, Largest, Reduced}
@@ -21,10 +21,7 @@ count [] = 0
 count (x ∷ M) = cond (nat_eq x 1) 1 0 + count M
 
 one_mark : (a b : Bool) → (T a → T b) → cond a 1 0 ≤ cond b 1 0
-one_mark true true h = omega arith
-one_mark true false h = absurd (h tt)
-one_mark false true h = omega arith
-one_mark false false h = omega arith
+one_mark a b h = grind arith
 
 no_more : (M N : List ℕ) → length N ≡ length M → Within N M → count N ≤ count M
 unfolding count
@@ -35,9 +32,7 @@ no_more (x ∷ M) (y ∷ N) e w =
     let h = no_more M N (omega arith) (λ i t. w (suc i) t) in let b = one_mark (nat_eq y 1) (nat_eq x 1) (w 0) in omega arith
 
 less_mark : (a b : Bool) → T a → T (not b) → cond b 1 0 < cond a 1 0
-less_mark true true t f = absurd f
-less_mark true false t f = omega arith
-less_mark false b t f = absurd t
+less_mark a b t f = grind arith
 
 pub fewer_marks : (M N : List ℕ) → length N ≡ length M → Within N M → (i : ℕ) → T (marked M i) → T (not (marked N i)) → count N < count M
 unfolding count

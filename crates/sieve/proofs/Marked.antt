@@ -3,7 +3,7 @@ use Rattle.std.proofs.Common.{◌≡◌, ℕ, zero, suc, ◌<◌, max, T, ◌⊎
 use Rattle.std.specs.List.{AllByRecursion}
 use Rattle.std.proofs.lemmas.Bool.{cases_lt, cases_eq, eqb-true, eq-eqb}
 use Rattle.std.proofs.lemmas.List.{get_or_past, get_or-replicate, length-replicate}
-use Rattle.system.proofs.Truth.{T_of, T_true}
+use Rattle.system.proofs.Truth.{T_of, T_true, all_place}
 use Rattle.sieve.specs.Marks.{marked, Marks, Within, union, none}
 
 pub marked_is : (M : List ℕ) (i : ℕ) → T (marked M i) → get_or M i 0 ≡ 1
@@ -17,13 +17,8 @@ pub marked_below : (M : List ℕ) (i : ℕ) → T (marked M i) → i < length M
 marked_below M i t =
     elim (cases_lt i (length M)) [ inl h ↦ h | inr g ↦ absurd (let e = marked_is M i t in let f = get_or_past M i 0 g in let z : ⊥ = omega arith in z) ]
 
-all_at : (M : List ℕ) (i : ℕ) → AllByRecursion (λ x. x < 2) M → i < length M → get_or M i 0 < 2
-all_at [] i h l = absurd (let z : ⊥ = omega arith in z)
-all_at (x ∷ M) zero h l = h.0
-all_at (x ∷ M) (suc i) h l = all_at M i h.1 (omega arith)
-
 pub small : (places : ℕ) (M : List ℕ) → Marks places M → (i : ℕ) → i < places → get_or M i 0 < 2
-small places M m i h = all_at M i m.1 (omega (arith, m.0))
+small places M m i h = all_place (λ x. x < 2) M 0 i m.1 (omega (arith, m.0))
 
 pub all_small : (M : List ℕ) → ((i : ℕ) → i < length M → get_or M i 0 < 2) → AllByRecursion (λ x. x < 2) M
 all_small [] h = tt

@@ -1,5 +1,5 @@
 -- Truth of tests, of clauses by their literals, and of lists of clauses by their members. Assumes nothing.
-use Rattle.std.proofs.Common.{◌≡◌, ℕ, ◌%◌, Bool, true, false, not, ◌&&◌, ◌||◌, T, eqb, ◌⊎◌, List, [], ◌∷◌, ◌++◌, sym, refl, ap, subst, ap₂, inl, inr, arith}
+use Rattle.std.proofs.Common.{◌≡◌, ℕ, zero, suc, ◌<◌, ◌%◌, length, get_or, Bool, true, false, not, ◌&&◌, ◌||◌, T, eqb, ◌⊎◌, List, [], ◌∷◌, ◌++◌, sym, refl, ap, subst, ap₂, inl, inr, arith}
 use mathlib.Core.Bool.{beq}
 use Rattle.std.specs.List.{AllByRecursion}
 use Rattle.system.specs.Literals.{Valuation, variable_of, literal, clause, clauses, Member, Occurs, OccursAmong}
@@ -67,6 +67,12 @@ member_all P (y ∷ ys) x h (inr m) = member_all P ys x h.1 m
 pub all_members : {A : Type 0} (P : A → Type 0) (xs : List A) → ((x : A) → Member x xs → P x) → AllByRecursion P xs
 all_members P [] h = tt
 all_members P (x ∷ xs) h = (h x (inl refl), all_members P xs (λ y m. h y (inr m)))
+
+-- what holds of each holds of that at a place
+pub all_place : {A : Type 0} (P : A → Type 0) (xs : List A) (d : A) (i : ℕ) → AllByRecursion P xs → i < length xs → P (get_or xs i d)
+all_place P [] d i h l = absurd (let z : ⊥ = omega arith in z)
+all_place P (x ∷ xs) d zero h l = h.0
+all_place P (x ∷ xs) d (suc i) h l = all_place P xs d i h.1 (omega arith)
 
 -- a clause is true where a literal of it is
 pub clause_some : (a : Valuation) (d : List ℕ) → T (clause a d) → (l : ℕ) × Member l d × T (literal a l)
