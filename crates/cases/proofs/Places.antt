@@ -15,7 +15,7 @@ use Rattle.cases.specs.declared.answers.Clause.{Clause}
 use Rattle.layout.proofs.Law.{spelled_length, field_relays, field_inputs, field_start, field_step, field_safety, start_begins, step_begins, safety_begins}
 
 -- clauses take as many bytes as they have literals, and a length byte each
-spelled_size : (cs : List (List ℕ)) → length (spell_clauses cs) ≡ length cs + size cs
+pub spelled_size : (cs : List (List ℕ)) → length (spell_clauses cs) ≡ length cs + size cs
 spelled_size [] = refl
 spelled_size (d ∷ ds) = let h = spelled_size ds in let e = length-append d (spell_clauses ds) in omega arith
 

@@ -9,7 +9,7 @@ use Rattle.faults.specs.declared.case.CaseFault.TheVariants.{Short, Relays, Inpu
 use Rattle.faults.specs.declared.case.ListName.{ListName}
 use Rattle.faults.specs.declared.case.ListName.TheVariants.{Start, Step, Safety}
 use Rattle.faults.specs.declared.work.WorkFault.{WorkFault}
-use Rattle.faults.specs.declared.work.WorkFault.TheVariants.{InCase, InCandidates, TooManyCandidates, NoSuchClause, Marks, NoCapacity}
+use Rattle.faults.specs.declared.work.WorkFault.TheVariants.{InCase, InCandidates, TooManyCandidates, NoSuchClause, NoSuchEntry, NoSuchState, TooManyPlaces, Marks, Decided, BookSize, NoPlace, AgainstRules, NoCapacity, NotBroken}
 
 -- layer, number and place as text, with a space between
 abbrev pub told : Refusal → List ℕ
@@ -47,5 +47,13 @@ work_refusal (InCase fault) = case_refusal fault
 work_refusal (InCandidates fault) = clause_refusal fault
 work_refusal (TooManyCandidates at) = record { layer = 3; number = 21; place = at }
 work_refusal (NoSuchClause given) = record { layer = 3; number = 31; place = given }
+work_refusal (NoSuchEntry given) = record { layer = 3; number = 31; place = given }
+work_refusal (NoSuchState given) = record { layer = 3; number = 31; place = given }
+work_refusal TooManyPlaces = record { layer = 3; number = 32; place = 0 }
 work_refusal (Marks at) = record { layer = 3; number = 33; place = at }
+work_refusal Decided = record { layer = 3; number = 41; place = 0 }
+work_refusal BookSize = record { layer = 3; number = 42; place = 0 }
+work_refusal NoPlace = record { layer = 3; number = 43; place = 0 }
+work_refusal (AgainstRules entry) = record { layer = 3; number = 44; place = entry }
 work_refusal NoCapacity = record { layer = 3; number = 45; place = 0 }
+work_refusal NotBroken = record { layer = 3; number = 46; place = 0 }

@@ -8,16 +8,26 @@ use crate::fault::Fault;
 use crate::refusal::Refusal;
 
 // A fault of the case, a fault inside a candidate clause, one candidate too many (with the index of its length byte),
-// no clause of the number that was given, marks of the wrong number (with 0) or one that is neither 0 nor 1 (with its
-// number), or a solver with too little capacity.
+// no clause, entry or state of the number that was given, a book of too many places, marks of the wrong number (with 0)
+// or one that is neither 0 nor 1 (with its number), a verdict that was given already, a book of another size than at
+// opening, no free place, an entry against the rules (with its number), a solver with too little capacity, or no run to
+// read since the verdict is not broken.
 #[derive(Clone, Copy, PartialEq, Eq, Debug)]
 pub enum WorkFault {
     InCase(CaseFault),
     InCandidates(ClauseFault),
     TooManyCandidates(usize),
     NoSuchClause(usize),
+    NoSuchEntry(usize),
+    NoSuchState(usize),
+    TooManyPlaces,
     Marks(usize),
+    Decided,
+    BookSize,
+    NoPlace,
+    AgainstRules(usize),
     NoCapacity,
+    NotBroken,
 }
 
 impl From<CaseFault> for WorkFault {
@@ -46,9 +56,17 @@ impl Fault for WorkFault {
             WorkFault::InCase(fault) => fault.refusal(),
             WorkFault::InCandidates(fault) => fault.refusal(),
             WorkFault::TooManyCandidates(at) => Refusal::new(3, 21, *at),
-            WorkFault::NoSuchClause(given) => Refusal::new(3, 31, *given),
+            WorkFault::NoSuchClause(given)
+            | WorkFault::NoSuchEntry(given)
+            | WorkFault::NoSuchState(given) => Refusal::new(3, 31, *given),
+            WorkFault::TooManyPlaces => Refusal::new(3, 32, 0),
             WorkFault::Marks(at) => Refusal::new(3, 33, *at),
+            WorkFault::Decided => Refusal::new(3, 41, 0),
+            WorkFault::BookSize => Refusal::new(3, 42, 0),
+            WorkFault::NoPlace => Refusal::new(3, 43, 0),
+            WorkFault::AgainstRules(entry) => Refusal::new(3, 44, *entry),
             WorkFault::NoCapacity => Refusal::new(3, 45, 0),
+            WorkFault::NotBroken => Refusal::new(3, 46, 0),
         }
     }
 }

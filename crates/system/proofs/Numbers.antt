@@ -2,12 +2,8 @@
 use Rattle.std.proofs.Common.{◌≡◌, ℕ, zero, suc, ◌+◌, ◌*◌, ◌/◌, ◌^◌, ◌<◌, Bool, true, false, cond, ap, ◌∙◌, pow-suc, arith}
 use Rattle.std.proofs.lemmas.Bool.{eq-eqb, ne_eqb}
 use Rattle.system.specs.Literals.{bit}
+use Rattle.system.specs.Spelling.{number}
 use Rattle.system.proofs.Bits.{bit_suc}
-
--- bit i is p i
-unfoldable pub number : ℕ → (ℕ → Bool) → ℕ
-number zero p = 0
-number (suc k) p = cond (p 0) 1 0 + 2 * number k (λ i. p (suc i))
 
 bit_low : (b : Bool) (y : ℕ) → bit (cond b 1 0 + 2 * y) 0 ≡ b
 bit_low true y = eq-eqb _ _ (omega arith)

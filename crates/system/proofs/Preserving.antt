@@ -6,7 +6,8 @@ use Rattle.system.specs.Literals.{Valuation, bit, variable_of, clause, clauses, 
 use Rattle.system.specs.Systems.{System, Step, step_bits, Consecution, OverRelays, OverVariables, is_variable}
 use Rattle.system.specs.Preserving.{after, Preserved, StepFormed, PreservedIsConsecution, loaded, met}
 use Rattle.system.proofs.Truth.{T_true, and_l, and_r, or_e, member_all, clause_same, clauses_same, clauses_parts, clauses_append}
-use Rattle.system.proofs.Numbers.{number, bit_number, number_below}
+use Rattle.system.specs.Spelling.{number}
+use Rattle.system.proofs.Numbers.{bit_number, number_below}
 
 -- clauses over relays have the same truth under valuations that agree on these
 pub relays_alike : (n : ℕ) (a b : Valuation) (c : List ℕ) → OverRelays n c → ((v : ℕ) → v < n → a v ≡ b v) → clause a c ≡ clause b c
@@ -81,7 +82,7 @@ module _ (c : System) (formed : StepFormed c) (a : Valuation) where
           subst (λ u. T (is_variable c.n c.m u)) e
           (member_all (λ j. T (is_variable c.n c.m (variable_of j))) d l (member_all (OverVariables c.n c.m) c.step d formed.over m) k)
 
-  step_of : T (clauses a c.step) → Step c state next
+  pub step_of : T (clauses a c.step) → Step c (number c.n a) (number c.n (after a))
   unfolding state next inputs
   step_of t = record {
     low = number_below c.n a;
