@@ -51,4 +51,11 @@ impl<'a> CandidateSieve<'a> {
         let list = read_list(case, bytes)?;
         Ok(CandidateSieve { list })
     }
+
+    // The candidates in order.
+    pub fn candidates(&self) -> ClauseList<'a>
+        ensures { clauses_of result ≡ self.now }
+    {
+        self.list
+    }
 }

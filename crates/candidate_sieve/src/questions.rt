@@ -1,18 +1,17 @@
 // Questions about the marked clauses of a list: whether a step from where they are all true makes one false.
-ghost use Rattle.std.specs.Prelude.{◌≡◌, ℕ, ◌+◌, ◌<◌, true, not, cond, List, [], ◌∷◌, ◌++◌, length, take};
+ghost use Rattle.std.specs.Prelude.{◌≡◌, ℕ, ◌+◌, ◌<◌, true, cond, [], ◌∷◌, ◌++◌, length};
 ghost use Rattle.std.specs.List.{AllByRecursion};
-ghost use Rattle.system.specs.Literals.{Valuation, bit, variable_of, literal, clause};
-ghost use Rattle.system.specs.Systems.{OverRelays, Rising};
-ghost use Rattle.system.specs.Preserving.{after};
-ghost use Rattle.solver.specs.Answers.{literals, fits, need_of, spare};
+ghost use Rattle.system.specs.Literals.{bit, clause};
+ghost use Rattle.solver.specs.Answers.{fits, need_of, spare};
 ghost use Rattle.lists.specs.Lists.{clauses_of};
 ghost use Rattle.candidate_sieve.specs.Questions.{Found, unmarked, Settled};
 ghost use Rattle.candidate_sieve.specs.Candidates.{Formed, chosen};
 
+use denial::{Moment, deny};
 use lists::ClauseList;
 use sieve::Sifting;
 use solver::{Answer, Solver};
-use system::{is_true, literal_of, variable};
+use system::is_true;
 
 // Adds the clause if it is marked, where it fits.
 fn add_if_marked<S: Solver>(solver: &mut S, candidate: &[u8], mark: u8)
@@ -36,24 +35,6 @@ pub(crate) fn add_marked<S: Solver>(solver: &mut S, list: ClauseList, marks: &[u
     }
 }
 
-// The literal over the relays after a step that is true exactly where the literal of the byte is false there.
-fn denied(byte: u8) -> u8
-    requires { variable_of byte < 32 }
-    ensures { (a : Valuation) → literal a result ≡ not (literal (after a) byte) }
-{
-    literal_of(variable(byte) + 32, byte % 2 == 1)
-}
-
-// Writes the literals over the relays after a step that are all true exactly where the clause is false there.
-fn write_denied(candidate: &[u8], out: &mut [u8; 32])
-    requires { Formed candidate.now }
-    ensures { (a : Valuation) → literals a (take (length candidate.now) out.new) ≡ not (clause (after a) candidate.now) }
-{
-    for (i, byte) in candidate.iter().enumerate() {
-        out[i] = denied(*byte);
-    }
-}
-
 // The state after a step, of the values of the first 64 variables.
 #[tactic(auto, using(crate::proofs::Denied::bit_after))]
 fn state_after(low: u64) -> u32
@@ -74,8 +55,8 @@ fn ask_if_marked<S: Solver>(solver: &mut S, candidate: &[u8], mark: u8) -> Optio
         return None;
     }
     let mut assumed = [0; 32];
-    write_denied(candidate, &mut assumed);
-    match solver.query(&assumed[..candidate.len()]) {
+    let count = deny(candidate, Moment::After, &mut assumed);
+    match solver.query(&assumed[..count]) {
         Answer::Yes(low, _) => Some(state_after(low)),
         Answer::No => None,
     }

@@ -1,0 +1,3 @@
+mod Valuations
+mod Initials
+mod Joins
