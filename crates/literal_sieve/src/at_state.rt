@@ -1,6 +1,6 @@
 // The sieve of the literals of a case that are false at a state.
-ghost use Rattle.std.specs.Prelude.{◌≡◌};
-ghost use Rattle.literal_sieve.specs.Literal.{ClauseClosed, need, ClosedIsConsecution};
+ghost use Rattle.std.specs.Prelude.{◌≡◌, ◌≤◌, take};
+ghost use Rattle.literal_sieve.specs.Literal.{false_at, ClauseClosed, need, ClosedIsConsecution};
 ghost use Rattle.literal_sieve.specs.Laws.{none_closed, union_closed};
 
 use crate::asking::ask;
@@ -42,6 +42,17 @@ impl LiteralSieve {
     {
         let relays = case.relays();
         LiteralSieve { relays, state }
+    }
+
+    // Writes the clause of the marked relays' literals that are false at the state, and says how many these are. Places past
+    // the marks are not marked, and marks past the relays do not count.
+    #[tactic(auto, using(crate::proofs::Written::clause_written))]
+    pub fn write_clause(&self, marks: &[u8], out: &mut [u8; 32]) -> usize
+        ensures value { take result out.new ≡ false_at self.now.n self.now.state marks.now }
+        ensures bound { result ≤ 32 }
+    {
+        let count = marks.len().min(self.places());
+        write_literals(&marks[..count], self.state, 0, false, out)
     }
 }
 

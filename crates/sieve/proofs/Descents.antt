@@ -1,5 +1,5 @@
 -- The descent: what holds of the marks from sifting to sifting, and at its end. Assumes nothing.
-use Rattle.std.proofs.Common.{true≢false, ◌≡◌, ℕ, zero, suc, ◌+◌, ◌<◌, ◌≤◌, Bool, cond, not, T, List, [], ◌∷◌, length, Some, None, Ok, Err, Option, Result, sym, refl, ap, ◌∙◌, subst, subst₂, inl, inr, arith, nat_eq}
+use Rattle.std.proofs.Common.{true≢false, ◌≡◌, ◌↔◌, ℕ, zero, suc, ◌+◌, ◌<◌, ◌≤◌, Bool, cond, not, T, List, [], ◌∷◌, length, Some, None, Ok, Err, Option, Result, sym, refl, ap, ◌∙◌, subst, subst₂, inl, inr, arith, nat_eq}
 use Rattle.solver.specs.declared.capacity.Capacity.{Capacity}
 use Rattle.faults.specs.declared.work.WorkFault.{WorkFault}
 use Rattle.sieve.specs.Marks.{marked, Marks, Within, Largest, Reduced}
@@ -14,6 +14,16 @@ use Rattle.sieve.proofs.Marked.{same_marks}
 pub largest_only : (places : ℕ) (closed : List ℕ → Type 0) (given M N : List ℕ) → Largest places closed given M → Largest places closed given N → M ≡ N
 largest_only places closed given M N m n =
     same_marks places M N m.marks n.marks (n.greatest M m.marks m.stable m.within) (m.greatest N n.marks n.stable n.within)
+
+-- families that are alike have the same largest sets
+pub largest_same : (places : ℕ) (closed family : List ℕ → Type 0) → ((M : List ℕ) → closed M ↔ family M) → (given out : List ℕ) → Largest places closed given out → Largest places family given out
+largest_same places closed family same given out l =
+    record {
+      marks = l.marks;
+      stable = (same out).0 l.stable;
+      within = l.within;
+      greatest = λ M m f w. l.greatest M m ((same M).1 f) w;
+    }
 
 -- how many places are marked
 pub count : List ℕ → ℕ

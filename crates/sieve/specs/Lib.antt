@@ -1,2 +1,3 @@
 pub mod Marks
 pub mod Sieves
+pub mod Trims
