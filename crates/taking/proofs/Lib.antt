@@ -1,0 +1,3 @@
+pub mod Largest
+mod Initiating
+mod Choosing

@@ -1,0 +1,6 @@
+// Takes from a list of candidates those that are inductive together.
+#![tactic(auto)]
+
+mod taking;
+
+pub use taking::choose;
