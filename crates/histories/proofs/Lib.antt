@@ -1,0 +1,10 @@
+pub mod Invariant
+pub mod Storable
+pub mod Standing
+pub mod Lawful
+pub mod ReadOut
+pub mod Determined
+pub mod Stored
+pub mod Ending
+pub mod Promised
+pub mod Judged

@@ -1,0 +1,5 @@
+pub mod Calls
+pub mod Histories
+pub mod Reads
+pub mod Laws
+pub mod Promises
