@@ -1,0 +1,7 @@
+mod Starting
+mod Hops
+mod Told
+mod Storing
+mod Taken
+mod Turning
+mod Ended
