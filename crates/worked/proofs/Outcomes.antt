@@ -1,5 +1,5 @@
 -- Outcomes of descents over few places. Assumes nothing.
-use Rattle.std.proofs.Common.{ℕ, zero, suc, ◌<◌, List, [], ◌∷◌, sym, subst, arith}
+use Rattle.std.proofs.Common.{ℕ, zero, suc, ◌<◌, List, [], ◌∷◌, sym, refl, subst, arith}
 use Rattle.sieve.specs.Marks.{Marks, Largest}
 use Rattle.sieve.proofs.Descents.{largest_only}
 use Rattle.worked.specs.Descents.{DescendsTo}
@@ -10,8 +10,22 @@ module _ (places : ℕ) (family : List ℕ → Type 0) (given out : List ℕ) wh
   outcome l M = (λ m. largest_only places family given M out m l, λ e. subst (Largest places family given) (sym e) l)
 
 -- closed marks are the largest within themselves
-pub stays : (places : ℕ) (family : List ℕ → Type 0) (given : List ℕ) → Marks places given → family given → DescendsTo places family given given
-stays places family given m f = outcome places family given given (record { marks = m; stable = f; within = λ i t. t; greatest = λ N n k w. w })
+module _ (places : ℕ) (family : List ℕ → Type 0) (given : List ℕ) (m : Marks places given) (f : family given) where
+  pub itself : Largest places family given given
+  itself = record { marks = m; stable = f; within = λ i t. t; greatest = λ N n k w. w }
+
+  pub stays : DescendsTo places family given given
+  stays = outcome places family given given itself
+
+-- written marks
+pub marks1 : (x : ℕ) → x < 2 → Marks 1 (x ∷ [])
+marks1 x p = (refl, (p, tt))
+
+pub marks2 : (x y : ℕ) → x < 2 → y < 2 → Marks 2 (x ∷ y ∷ [])
+marks2 x y p q = (refl, (p, (q, tt)))
+
+pub marks3 : (x y z : ℕ) → x < 2 → y < 2 → z < 2 → Marks 3 (x ∷ y ∷ z ∷ [])
+marks3 x y z p q r = (refl, (p, (q, (r, tt))))
 
 -- what holds of the digits 0 and 1 holds of every number below 2
 digit : (P : ℕ → Type 0) → P 0 → P 1 → (x : ℕ) → x < 2 → P x

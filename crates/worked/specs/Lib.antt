@@ -1,2 +1,3 @@
 pub mod Systems
 pub mod Descents
+pub mod Examples

@@ -1,9 +1,9 @@
 // Small systems whose outcomes are worked out over the definitions.
 #![tactic(auto)]
 
-ghost use Rattle.worked.specs.Descents.{WorkedDescents};
+ghost use Rattle.worked.specs.Examples.{WorkedExamples};
 
-// The descents over two systems of two relays.
-pub fn descents()
-    ensures { WorkedDescents }
+// What calls on four small systems give, what descents over two of them end on, and the smallest questions to a solver.
+pub fn examples()
+    ensures { WorkedExamples }
 {}

@@ -1,23 +1,17 @@
-use Rattle.std.proofs.Common.{ℕ, zero, suc, ◌<◌, T, ◌↔◌, List, [], ◌∷◌, refl, arith, slice_index_or}
+-- The worked descents. Assumes nothing.
+use Rattle.std.proofs.Common.{ℕ, zero, suc, ◌<◌, T, ◌↔◌, List, [], ◌∷◌, arith, slice_index_or}
 use Rattle.std.specs.List.{AllByRecursion}
 use Rattle.system.specs.Literals.{bit, clause, clauses}
 use Rattle.system.specs.Spelling.{spelled}
 use Rattle.system.specs.Systems.{Initiation, OverRelays, step_bits, Initial}
 use Rattle.system.specs.Preserving.{Preserved, loaded, met, StepFormed}
 use Rattle.system.proofs.Preserving.{loaded_is_consecution}
-use Rattle.sieve.specs.Marks.{marked, Marks, Within}
+use Rattle.sieve.specs.Marks.{marked, Within}
 use Rattle.sieve.proofs.Marked.{none_marked}
 use Rattle.worked.specs.Systems.{follower, exchange}
-use Rattle.worked.specs.Descents.{DescendsTo, Literals, Together, three}
+use Rattle.worked.specs.Descents.{DescendsTo, Literals, Together, three, WorkedDescents}
 use Rattle.worked.proofs.Deciding.{initiation, consecution, consecutes}
-use Rattle.worked.proofs.Outcomes.{outcome, stays, one_place, two_places, three_places}
-use Rattle.worked.proofs.descents.Goals as goal
-
-marks2 : (x y : ℕ) → x < 2 → y < 2 → Marks 2 (x ∷ y ∷ [])
-marks2 x y p q = (refl, (p, (q, tt)))
-
-marks3 : (x y z : ℕ) → x < 2 → y < 2 → z < 2 → Marks 3 (x ∷ y ∷ z ∷ [])
-marks3 x y z p q r = (refl, (p, (q, (r, tt))))
+use Rattle.worked.proofs.Outcomes.{outcome, stays, marks1, marks2, marks3, one_place, two_places, three_places}
 
 -- the exchange
 exchange_formed : StepFormed exchange
@@ -29,7 +23,7 @@ off = record { low = omega arith; starts = tt }
 exchange_preserves : (cs : List (List ℕ)) → AllByRecursion (OverRelays 2) cs → T (consecutes exchange (met exchange []) (λ s. clauses (bit s) cs)) → Preserved (loaded exchange []) cs
 exchange_preserves cs over h = (loaded_is_consecution exchange [] cs exchange_formed tt tt over).1 (consecution exchange (met exchange []) (λ s. clauses (bit s) cs) h)
 
-started : (i : ℕ) → i < 3 → T (marked (1 ∷ 1 ∷ 0 ∷ []) i) ↔ Initiation exchange (λ s. clause (bit s) (slice_index_or three i []))
+pub started : (i : ℕ) → i < 3 → T (marked (1 ∷ 1 ∷ 0 ∷ []) i) ↔ Initiation exchange (λ s. clause (bit s) (slice_index_or three i []))
 started zero h = (λ t. initiation exchange (λ s. clause (bit s) (1 ∷ [])) tt, λ k. tt)
 started (suc zero) h = (λ t. initiation exchange (λ s. clause (bit s) (3 ∷ [])) tt, λ k. tt)
 started (suc (suc zero)) h = (λ t. absurd t, λ k. k 0 off)
@@ -58,7 +52,7 @@ fall =
 alone : DescendsTo 1 (Together ((1 ∷ []) ∷ [])) (1 ∷ []) (0 ∷ [])
 alone =
     outcome 1 (Together ((1 ∷ []) ∷ [])) (1 ∷ []) (0 ∷ []) (record {
-      marks = (refl, (omega arith, tt));
+      marks = marks1 0 (omega arith);
       stable = exchange_preserves [] tt tt;
       within = λ i t. absurd (none_marked 1 i t);
       greatest = one_place (λ M. Together ((1 ∷ []) ∷ []) M → Within M (1 ∷ []) → Within M (0 ∷ [])) (λ h w i t. t) (λ h w. absurd (h (step_bits 2 1 0) tt tt));
@@ -111,8 +105,8 @@ dropped =
       greatest = two_places (λ M. Literals 3 M → Within M (1 ∷ 0 ∷ []) → Within M (0 ∷ 0 ∷ [])) (λ h w i t. t) (λ h w. absurd (w 1 tt)) (λ h w. absurd (h (step_bits 2 3 0) tt tt)) (λ h w. absurd (w 1 tt));
     })
 
-pub returns : goal.returns
-returns c =
+pub worked_descents : WorkedDescents
+worked_descents =
     record {
       started = started;
       stand = stand;
