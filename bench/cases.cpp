@@ -95,7 +95,7 @@ std::vector<uint8_t> bytes_of(const System& system) {
     size_t counts[] = {system.start.size(), system.step.size(), system.safety.size()};
     size_t places[] = {18, 18 + start.size(), 18 + start.size() + step.size(), 18 + start.size() + step.size() + safety.size()};
     put_number(bytes, system.relays);
-    put_number(bytes, INPUTS);
+    put_number(bytes, system.input_count);
     for (size_t number : counts) put_number(bytes, number);
     for (size_t number : places) put_number(bytes, number);
     for (const auto& section : {start, step, safety}) bytes.insert(bytes.end(), section.begin(), section.end());

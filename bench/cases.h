@@ -9,6 +9,7 @@ struct System {
     uint32_t state = 0;                // where to descend, or the one start state
     uint32_t before = 0, reached = 0;  // a step leads from the one to the other
     uint64_t inputs = 0;               // under these inputs, which allow a step from each state
+    unsigned input_count = 64;
 };
 
 // The bytes of the case.

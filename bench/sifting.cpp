@@ -2,11 +2,10 @@
 
 #include <cstdio>
 #include <cstdlib>
-#include <memory>
+
+#include "asking.h"
 
 extern "C" {
-#include <picosat/picosat.h>
-
 // crates/descents: a slice is a pointer and then a length.
 uint32_t hokhnebi_literal_descent(const uint8_t* bytes, size_t bytes_len, uint32_t state, uint8_t* marks, size_t marks_len, uint64_t* asked);
 uint32_t hokhnebi_candidate_descent(const uint8_t* bytes, size_t bytes_len, const uint8_t* listed, size_t listed_len, uint8_t* marks,
@@ -19,48 +18,6 @@ void need_descended(uint32_t code) {
     if (code == 0) return;
     std::fprintf(stderr, "the library refused a descent: %u\n", code);
     std::exit(1);
-}
-
-// PicoSAT with the step clauses and safety clauses of a system, which counts its questions.
-class Solver {
-    std::unique_ptr<PicoSAT, decltype(&picosat_reset)> solver{picosat_init(), picosat_reset};
-
-public:
-    uint64_t asked = 0;
-
-    explicit Solver(const System& system) {
-        picosat_adjust(solver.get(), 128);
-        for (const Clause& clause : system.step) add(clause);
-        for (const Clause& clause : system.safety) add(clause);
-    }
-    void add_number(int number) { picosat_add(solver.get(), number); }
-    void add(const Clause& clause) {
-        for (uint8_t literal : clause) add_number(number(literal));
-        add_number(0);
-    }
-    int fresh() { return picosat_inc_max_var(solver.get()); }
-    void open() { picosat_push(solver.get()); }
-    void close() { picosat_pop(solver.get()); }
-    bool ask(const Clause& assumed) {
-        for (uint8_t literal : assumed) picosat_assume(solver.get(), number(literal));
-        asked++;
-        return picosat_sat(solver.get(), -1) == PICOSAT_SATISFIABLE;
-    }
-    // The state in the last yes, of the variables from `first` on.
-    uint32_t state(unsigned first) {
-        uint32_t state = 0;
-        for (unsigned relay = 0; relay < 32; relay++)
-            if (picosat_deref(solver.get(), (int)(first + relay) + 1) == 1) state |= 1u << relay;
-        return state;
-    }
-};
-
-// The literals of the marked relays that are true at the state or false at it, over the variables from `first` on.
-Clause literals(const std::vector<uint8_t>& marks, uint32_t state, unsigned first, bool truth) {
-    Clause clause;
-    for (unsigned relay = 0; relay < marks.size(); relay++)
-        if (marks[relay] == 1) clause.push_back(literal(first + relay, ((state >> relay & 1) != 0) != truth));
-    return clause;
 }
 
 Clause denied_after(const Clause& candidate) {
@@ -120,14 +77,7 @@ Descent library_candidates(const std::vector<uint8_t>& bytes, const std::vector<
 Descent picosat_literals(const System& system) {
     Solver solver(system);
     Descent descent{std::vector<uint8_t>(system.relays, 1)};
-    for (;;) {
-        // marks are only taken away, so each clause makes those before it true and may stay
-        solver.add(literals(descent.marks, system.state, 0, false));
-        if (!solver.ask(literals(descent.marks, system.state, 32, true))) break;
-        uint32_t differing = solver.state(0) ^ system.state;
-        for (unsigned relay = 0; relay < system.relays; relay++)
-            if (differing >> relay & 1) descent.marks[relay] = 0;
-    }
+    sift_literals(solver, system.state, descent.marks);
     descent.asked = solver.asked;
     return descent;
 }

@@ -1,9 +1,14 @@
 -- What a descent comes to, carried from what a solver holds to the system. Assumes nothing.
-use Rattle.std.proofs.Common.{◌≡◌, ℕ, ◌↔◌, true, List, [], length, Ok, Err, Result, Some, None, sym, ap, ◌∙◌, subst, inl, inr}
+use Rattle.std.proofs.Common.{◌≡◌, ℕ, ◌↔◌, ◌⊎◌, true, refl, List, [], length, Ok, Err, Option, Result, Some, None, sym, ap, ◌∙◌, subst, inl, inr}
 use Rattle.system.specs.Literals.{bit, clause, clauses}
 use Rattle.system.specs.Systems.{System, Consecution}
 use Rattle.system.specs.Preserving.{loaded, met}
-use Rattle.solver.specs.Answers.{need_of}
+use Rattle.solver.specs.Answers.{need_of, spare}
+use Rattle.solver.specs.declared.capacity.Capacity.{Capacity}
+use Rattle.faults.specs.declared.case.CaseFault.TheVariants.{NoMemory}
+use Rattle.faults.specs.declared.work.WorkFault.TheVariants.{InCase}
+use Rattle.sieve.specs.Sieves.{sift_fault, Descended}
+use Rattle.sieve.proofs.Descents.{largest_same}
 use Rattle.faults.proofs.Firsts.{unless_ok}
 use Rattle.faults.specs.declared.work.WorkFault.{WorkFault}
 use Rattle.layout.specs.Reading.{accepted, case_fault, read_case, system_in}
@@ -14,22 +19,27 @@ use Rattle.sieve.specs.Marks.{Largest}
 use Rattle.literal_sieve.specs.Literal.{AtState, ClauseClosed, ClosedIsConsecution, false_at, need}
 use Rattle.candidate_sieve.specs.Candidates.{chosen, TogetherClosed}
 use Rattle.candidate_sieve.specs.Read.{TogetherIsConsecution}
-use Rattle.descents.specs.Outcomes.{descent_fault, DescentTold, literal_fault, listed_fault, candidate_fault, LiteralsTold, CandidatesTold}
+use Rattle.descents.specs.Outcomes.{room, descent_fault, DescentTold, literal_fault, listed_fault, candidate_fault, LiteralsTold, CandidatesTold}
 
 -- a case that was read is the system that its bytes spell
 pub read_ok : (bytes : List ℕ) (c : System) → Read bytes (Ok c) → read_case bytes ≡ Ok c
 read_ok bytes c (inl e) = sym e
 read_ok bytes c (inr p) = cc p.0
 
--- the largest set of a family is that of the same family by another name
-largest_same : (places : ℕ) (F G : List ℕ → Type 0) → ((M : List ℕ) → F M ↔ G M) → (given out : List ℕ) → Largest places F given out → Largest places G given out
-largest_same places F G same given out l =
-    record { marks = l.marks; stable = (same out).0 l.stable; within = l.within; greatest = λ M m g w. l.greatest M m ((same M).1 g) w }
-
 -- bytes that were read as a system have no fault
 read_accepted : (bytes : List ℕ) (c : System) → read_case bytes ≡ Ok c → accepted bytes ≡ true
 unfolding read_case
 read_accepted bytes c e = none_accepted bytes (unless_ok (case_fault bytes) (system_in bytes) c (sym e))
+
+-- a descent that is refused is told with the fault of sifting
+pub descent_refused : (c : System) (places : ℕ) (need : Capacity) (F : List ℕ → Type 0) (given out : List ℕ) (f : WorkFault) → spare (need_of (loaded c [])) [] room ≡ true
+    → Descended places F (sift_fault places need (loaded c []) room given) given (Err f) out → DescentTold c places need F given (Err f) out
+descent_refused c places need F given out f fits d = go (sift_fault places need (loaded c []) room given) refl d
+  where
+    go : (o : Option WorkFault) → sift_fault places need (loaded c []) room given ≡ o → Descended places F o given (Err f) out
+        → (out ≡ given) × ((descent_fault c places need given ≡ Some f) ⊎ (f ≡ InCase NoMemory))
+    go None e d = absurd d
+    go (Some g) e d = let same : g ≡ f = cc d.0 in (d.1, inl (rw fits (e ∙ ap (λ g. Some g) same)))
 
 module _ (bytes : List ℕ) (c : System) (read : read_case bytes ≡ Ok c) (given out : List ℕ) where
   pub literals_told : (state : ℕ) (s : AtState) → s ≡ record { n = c.n; state = state } → ClosedIsConsecution c state (ClauseClosed s) → (r : Result (Unit {0}) WorkFault)

@@ -10,7 +10,6 @@ ghost use Rattle.descents.specs.Codes.{code};
 ghost use Rattle.descents.specs.Outcomes.{room, DescentTold, LiteralsTold, CandidatesTold};
 
 use crate::outcome::code_of;
-use crate::tally::Tally;
 use candidate_sieve::CandidateSieve;
 use cases::Case;
 use faults::{CaseFault, WorkFault};
@@ -20,6 +19,7 @@ use propagating::Propagating;
 use sieve::{Sieve, descend};
 use solver::{Capacity, Solver};
 use std::alloc::Global;
+use tally::Tally;
 
 // As many clauses as a case may have in its step list and its safety list, and a list of candidates; and as many literals as
 // a case has bytes, and so many candidates over 32 relays.
@@ -42,6 +42,7 @@ fn loaded_solver(heap: Global, case: &Case) -> Result<Tally<Propagating>, WorkFa
 }
 
 // Descends over a sieve for a case, and then says how often the solver was asked.
+#[tactic(auto, using(crate::proofs::Told::descent_refused))]
 fn descended<V: Sieve>(
     heap: Global,
     case: &Case,

@@ -3,6 +3,5 @@
 
 mod calls;
 mod outcome;
-mod tally;
 
 pub use calls::{hokhnebi_candidate_descent, hokhnebi_literal_descent};

@@ -1,16 +1,18 @@
 // A solver that counts its questions, for measuring. How often it was asked is under no contract.
+#![tactic(auto)]
+
 ghost use Rattle.std.specs.Prelude.{◌≡◌};
 
 use solver::{Answer, NoCapacity, Solver};
 
 #[derive(Drop)]
-pub(crate) struct Tally<S> {
+pub struct Tally<S> {
     solver: S,
     asked: u64,
 }
 
 impl<S: Solver> Tally<S> {
-    pub(crate) fn new(solver: S) -> Tally<S>
+    pub fn new(solver: S) -> Tally<S>
         ensures held { ⟦<Tally<S> as Solver>⟧.held result ≡ S.Solver.held solver }
         ensures capacity { ⟦<Tally<S> as Solver>⟧.capacity result ≡ S.Solver.capacity solver }
     {
@@ -18,7 +20,7 @@ impl<S: Solver> Tally<S> {
     }
 
     // How many questions were asked.
-    pub(crate) fn asked(&self) -> u64 {
+    pub fn asked(&self) -> u64 {
         self.asked
     }
 }
