@@ -36,6 +36,35 @@ pub const SWAP: [u8; 34] = [
     2, 2, 0x41, 2, 3, 0x40, 2, 0, 0x43, 2, 1, 0x42,
 ];
 
+// TWO without the two clauses that make relay 1 keep its value. Step clauses at 22 and 25, the safety clause at 28.
+pub const OPEN: [u8; 30] = [
+    2, 0, 0, 0, 2, 0, 2, 0, 1, 0, 18, 0, 22, 0, 28, 0, 30, 0, //
+    1, 1, 1, 3, //
+    2, 2, 0x41, 2, 3, 0x40, //
+    1, 1,
+];
+
+// One relay that every step leaves open. No start clause; relay 0 is never on.
+pub const ANY_START: &[u8] = &[
+    1, 0, 0, 0, 0, 0, 0, 0, 1, 0, 18, 0, 18, 0, 18, 0, 20, 0, 1, 1,
+];
+
+// The same, and off at the start.
+pub const OFF_START: &[u8] = &[
+    1, 0, 0, 0, 1, 0, 0, 0, 1, 0, 18, 0, 20, 0, 20, 0, 22, 0, //
+    1, 1, //
+    1, 1,
+];
+
+// 32 relays: relay 31 keeps its value, relay 0 follows it, and steps leave the others open. Relay 31 is off at the start, and
+// relay 0 too; relay 0 is never on.
+pub const WIDE: &[u8] = &[
+    32, 0, 0, 0, 2, 0, 4, 0, 1, 0, 18, 0, 22, 0, 34, 0, 36, 0, //
+    1, 1, 1, 63, //
+    2, 62, 0x41, 2, 63, 0x40, 2, 62, 0x7f, 2, 63, 0x7e, //
+    1, 1,
+];
+
 // Writes the values over the bytes from the index on.
 pub fn put(bytes: &mut [u8], at: usize, values: &[u8]) {
     for (byte, value) in bytes.iter_mut().skip(at).zip(values) {
