@@ -1,8 +1,7 @@
--- Numbers by their bits: what &, |, ^ and << do to each bit, the lowest and the highest bit that is set, the low bits. Assumes nothing.
-use Rattle.std.proofs.Common.{◌≡◌, ℕ, zero, suc, ◌+◌, ◌-◌, ◌*◌, ◌/◌, ◌%◌, ◌^◌, ◌<◌, ◌≤◌, min, max, true, false, not, ◌&&◌, ◌||◌, eqb, sym, refl, ap, ◌∙◌, inl, inr, pow-suc, one-add, arith, pow_pos, pow_mono, shr-shr}
-use Prim.Native.Nat.{differ}
+-- Numbers by their bits: what & and | do to each bit, the lowest and the highest bit that is set, the low bits. Assumes nothing.
+use Rattle.std.proofs.Common.{◌≡◌, ℕ, zero, suc, ◌+◌, ◌-◌, ◌*◌, ◌/◌, ◌%◌, ◌^◌, ◌<◌, ◌≤◌, min, max, true, false, ◌&&◌, ◌||◌, eqb, sym, refl, ap, ◌∙◌, inl, inr, pow-suc, one-add, arith, pow_pos, pow_mono, shr-shr}
 use native.Mathlib.Nat.{zero-div}
-use lib.Bits.{bit_and, bit_or, bit_xor, and_shr, or_shr, xor_shr, and_step, or_step, xor_step}
+use lib.Bits.{bit_and, bit_or, and_shr, or_shr, and_step, or_step}
 use lib.Count.{count_trailing_zeros, under}
 use lib.Dec.{eqb-suc-suc}
 use lib.Pow.{field, mod-mod-pow}
@@ -27,9 +26,6 @@ and_digit = digits (λ p q. eqb (min p q) 1 ≡ (eqb p 1 && eqb q 1)) refl refl 
 or_digit : (p q : ℕ) → p < 2 → q < 2 → eqb (max p q) 1 ≡ (eqb p 1 || eqb q 1)
 or_digit = digits (λ p q. eqb (max p q) 1 ≡ (eqb p 1 || eqb q 1)) refl refl refl refl
 
-less_digit : (p q : ℕ) → p < 2 → q < 2 → eqb (differ p (min p q)) 1 ≡ (eqb p 1 && not (eqb q 1))
-less_digit = digits (λ p q. eqb (differ p (min p q)) 1 ≡ (eqb p 1 && not (eqb q 1))) refl refl refl refl
-
 odd_rest : (x r : ℕ) → r < 2 → (x * 2 + r) % 2 ≡ r
 odd_rest x r h = omega arith
 
@@ -38,9 +34,6 @@ min_digit p q h k = omega arith
 
 max_digit : (p q : ℕ) → p < 2 → q < 2 → max p q < 2
 max_digit p q h k = omega arith
-
-differ_digit : (p q : ℕ) → p < 2 → q < 2 → differ p q < 2
-differ_digit = digits (λ p q. differ p q < 2) (omega arith) (omega arith) (omega arith) (omega arith)
 
 low_lt : (x : ℕ) → x % 2 < 2
 low_lt x = omega arith
@@ -51,9 +44,6 @@ and_low x y = ap (λ z. z % 2) (and_step x y) ∙ odd_rest (bit_and (x / 2) (y /
 or_low : (x y : ℕ) → bit_or x y % 2 ≡ max (x % 2) (y % 2)
 or_low x y = ap (λ z. z % 2) (or_step x y) ∙ odd_rest (bit_or (x / 2) (y / 2)) (max (x % 2) (y % 2)) (max_digit _ _ (low_lt x) (low_lt y))
 
-xor_low : (x y : ℕ) → bit_xor x y % 2 ≡ differ (x % 2) (y % 2)
-xor_low x y = ap (λ z. z % 2) (xor_step x y) ∙ odd_rest (bit_xor (x / 2) (y / 2)) (differ (x % 2) (y % 2)) (differ_digit _ _ (low_lt x) (low_lt y))
-
 pub bit_of_and : (a b i : ℕ) → bit (bit_and a b) i ≡ (bit a i && bit b i)
 bit_of_and a b i =
     ap (λ z. eqb (z % 2) 1) (and_shr a b i) ∙ ap (λ z. eqb z 1) (and_low (a / 2 ^ i) (b / 2 ^ i)) ∙ and_digit _ _ (low_lt _) (low_lt _)
@@ -61,13 +51,6 @@ bit_of_and a b i =
 pub bit_of_or : (a b i : ℕ) → bit (bit_or a b) i ≡ (bit a i || bit b i)
 bit_of_or a b i =
     ap (λ z. eqb (z % 2) 1) (or_shr a b i) ∙ ap (λ z. eqb z 1) (or_low (a / 2 ^ i) (b / 2 ^ i)) ∙ or_digit _ _ (low_lt _) (low_lt _)
-
--- a and not b, as a ^ (a & b)
-pub bit_less : (a b i : ℕ) → bit (bit_xor a (bit_and a b)) i ≡ (bit a i && not (bit b i))
-bit_less a b i =
-    ap (λ z. eqb (z % 2) 1) (xor_shr a (bit_and a b) i ∙ ap (bit_xor (a / 2 ^ i)) (and_shr a b i))
-    ∙ ap (λ z. eqb z 1) (xor_low (a / 2 ^ i) (bit_and (a / 2 ^ i) (b / 2 ^ i)) ∙ ap (differ (a / 2 ^ i % 2)) (and_low (a / 2 ^ i) (b / 2 ^ i)))
-    ∙ less_digit (a / 2 ^ i % 2) (b / 2 ^ i % 2) (low_lt _) (low_lt _)
 
 pub bit_suc : (x j : ℕ) → bit x (suc j) ≡ bit (x / 2) j
 bit_suc x j = ap (λ y. eqb (y % 2) 1) (ap (λ k. x / 2 ^ k) (sym (one-add j)) ∙ sym (shr-shr x 1 j))
