@@ -6,4 +6,5 @@ mod counter;
 pub use counter::Counter;
 use keeping::Keeping;
 
+// The solver with the engine that counts.
 pub type Counting = Keeping<Counter>;

@@ -10,6 +10,7 @@ pub trait Engine: Sized + Drop {
     // Reserves all the memory that it will use, for so many held clauses and literals.
     fn prepare(heap: Global, capacity: Capacity) -> Result<Self, AllocError>;
 
+    // The answer, right for every list of held clauses that has these sets of literals.
     fn answer(&mut self, question: Question) -> Answer
         ensures { Decided question.entry result };
 }

@@ -7,6 +7,7 @@ use solver::{Answer, Capacity, NoCapacity, Solver};
 use std::alloc::{AllocError, Global};
 use storage::Storage;
 
+// A storage, and an engine that answers from it.
 #[derive(Drop)]
 pub struct Keeping<E> {
     storage: Storage,

@@ -38,6 +38,7 @@ impl<'a> From<&'a [u8]> for ClauseMask {
 }
 
 impl ClauseMask {
+    // No literal.
     pub const NONE: ClauseMask = ClauseMask {
         positive: 0,
         negative: 0,

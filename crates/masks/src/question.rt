@@ -30,7 +30,7 @@ impl<'a> Question<'a> {
         found
     }
 
-    // The clause of the first assumed literal, then the first held clause, that has no literal in the set.
+    // The clause of an assumed literal, or a held clause, that has no literal in the set; none where all have one.
     pub fn unmet(self, set: ClauseMask) -> Option<ClauseMask>
         ensures { Checked self.entry.masks.now self.entry.assumed.now set result }
     {

@@ -5,4 +5,5 @@
 use keeping::Keeping;
 use search::Search;
 
+// The solver with the engine that searches.
 pub type Propagating = Keeping<Search>;

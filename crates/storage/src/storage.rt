@@ -48,13 +48,14 @@ impl Storage {
         })
     }
 
-    // How many clauses fit, and how many literals.
+    // How many clauses fit.
     pub fn places(&self) -> usize
         ensures { result ≡ self.now.capacity.clauses }
     {
         self.capacity.clauses
     }
 
+    // How many literals fit.
     pub fn room(&self) -> usize
         ensures { result ≡ self.now.capacity.literals }
     {
@@ -68,6 +69,7 @@ impl Storage {
         self.masks.as_slice()
     }
 
+    // How many clauses are held, which is never more than fit.
     pub fn clauses_held(&self) -> usize
         ensures value { result ≡ length self.now.held }
         ensures bound { result ≤ self.now.capacity.clauses }
@@ -75,6 +77,7 @@ impl Storage {
         self.masks.len()
     }
 
+    // How many literals these have, which is never more than fit.
     pub fn literals_held(&self) -> usize
         ensures value { result ≡ size self.now.held }
         ensures bound { result ≤ self.now.capacity.literals }
@@ -82,6 +85,7 @@ impl Storage {
         self.literals.len()
     }
 
+    // Holds nothing afterwards.
     pub fn wipe(&mut self)
         ensures held { self.new.held ≡ [] }
         ensures capacity { self.new.capacity ≡ self.old.capacity }

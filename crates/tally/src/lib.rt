@@ -5,6 +5,7 @@ ghost use Rattle.std.specs.Prelude.{◌≡◌};
 
 use solver::{Answer, NoCapacity, Solver};
 
+// A solver, and how often it was asked.
 #[derive(Drop)]
 pub struct Tally<S> {
     solver: S,
@@ -12,6 +13,7 @@ pub struct Tally<S> {
 }
 
 impl<S: Solver> Tally<S> {
+    // The solver, not asked yet.
     pub fn new(solver: S) -> Tally<S>
         ensures held { ⟦<Tally<S> as Solver>⟧.held result ≡ S.Solver.held solver }
         ensures capacity { ⟦<Tally<S> as Solver>⟧.capacity result ≡ S.Solver.capacity solver }
