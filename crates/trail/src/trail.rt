@@ -1,10 +1,11 @@
-// The decisions in their order, no two on one variable, and the literals that they make true.
+// The trail.
 ghost use Rattle.std.specs.Prelude.{◌≡◌, ◌≤◌, true, vec_capacity};
 ghost use Rattle.trail.specs.Decisions.{distinct, Spells};
 
 use crate::decision::Decision;
 use masks::ClauseMask;
 
+// The decisions in their order, no two on one variable, and the literals that they make true.
 #[derive(Drop)]
 pub struct Trail {
     pub(crate) decisions: Vec<Decision>,

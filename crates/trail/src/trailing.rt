@@ -1,9 +1,9 @@
 // What is done to a trail.
-ghost use Rattle.std.specs.Prelude.{◌≡◌, ◌+◌, ◌<◌, ◌≤◌, [], length, take, IfOk, MatchBool, MatchOption, slice_index_or};
+ghost use Rattle.std.specs.Prelude.{◌≡◌, ◌+◌, ◌<◌, ◌≤◌, [], length, min, take, IfOk, MatchBool, MatchOption, slice_index_or};
 ghost use Rattle.masks.specs.Standings.{Unassigned};
 ghost use Rattle.trail.specs.Decisions.{Free, literals_of};
 ghost use Rattle.trail.specs.Changes.{Assigned, Changed};
-ghost use Rattle.trail.specs.Entries.{entries};
+ghost use Rattle.trail.specs.Entries.{entries, made_true, handed_out};
 
 use crate::decision::{Decision, Forcing};
 use crate::trail::Trail;
@@ -30,7 +30,7 @@ fn is_free(assigned: ClauseMask, variable: u8) -> bool
 impl Trail {
     // No decision, with room for one on each variable.
     pub fn new(heap: Global) -> Result<Trail, AllocError>
-        ensures { IfOk result (λ t. (entries t ≡ []) × (t.done ≡ 0)) }
+        ensures { IfOk result (λ t. (entries t ≡ []) × (handed_out t ≡ 0)) }
     {
         let decisions = Vec::with_capacity(heap, 128)?;
         Ok(Trail {
@@ -40,15 +40,17 @@ impl Trail {
         })
     }
 
+    // Lets go of all decisions.
     pub fn clear(&mut self)
         ensures entries { entries self.new ≡ [] }
-        ensures done { self.new.done ≡ 0 }
+        ensures done { handed_out self.new ≡ 0 }
     {
         self.decisions.clear();
         self.assigned = ClauseMask::NONE;
         self.done = 0;
     }
 
+    // The decisions in their order.
     pub fn decisions(&self) -> &[Decision]
         ensures { result.now ≡ entries self.now }
     {
@@ -57,7 +59,7 @@ impl Trail {
 
     // The literals that the decisions make true.
     pub fn assigned(&self) -> ClauseMask
-        ensures { result ≡ self.now.assigned }
+        ensures { result ≡ made_true self.now }
     {
         self.assigned
     }
@@ -65,8 +67,8 @@ impl Trail {
     // The first decision that was not handed out yet.
     pub fn advance(&mut self) -> Option<Decision>
         ensures entries { entries self.new ≡ entries self.old }
-        ensures assigned { self.new.assigned ≡ self.old.assigned }
-        ensures found { MatchOption result ((length (entries self.old) ≤ self.old.done) × (self.new.done ≡ self.old.done)) (λ d. (self.old.done < length (entries self.old)) × (d ≡ slice_index_or (entries self.old) self.old.done d) × (self.new.done ≡ self.old.done + 1)) }
+        ensures assigned { made_true self.new ≡ made_true self.old }
+        ensures found { MatchOption result ((length (entries self.old) ≤ handed_out self.old) × (handed_out self.new ≡ handed_out self.old)) (λ d. (handed_out self.old < length (entries self.old)) × (d ≡ slice_index_or (entries self.old) (handed_out self.old) d) × (handed_out self.new ≡ handed_out self.old + 1)) }
     {
         let decision = *self.decisions.get(self.done)?;
         self.done += 1;
@@ -76,7 +78,7 @@ impl Trail {
     // One more decision, where the variable has no value.
     pub fn assign(&mut self, literal: Literal, forcing: Forcing)
         ensures assigned { Assigned (entries self.old) literal.variable literal.value forcing (entries self.new) }
-        ensures done { self.new.done ≡ self.old.done }
+        ensures done { handed_out self.new ≡ handed_out self.old }
     {
         if is_free(self.assigned, literal.variable) {
             self.decisions.push_reserved(Decision {
@@ -92,7 +94,8 @@ impl Trail {
     // The changed entry counts as not handed out.
     pub fn change(&mut self, at: usize, literal: Literal, forcing: Forcing)
         ensures entries { Changed (entries self.old) at literal.variable literal.value forcing (entries self.new) }
-        ensures done { at < length (entries self.old) → literal.variable < 128 → Free (take at (entries self.old)) literal.variable → self.new.done ≤ at }
+        ensures done { at < length (entries self.old) → literal.variable < 128 → Free (take at (entries self.old)) literal.variable → handed_out self.new ≡ min (handed_out self.old) at }
+        ensures left { ((at < length (entries self.old)) × (literal.variable < 128) × Free (take at (entries self.old)) literal.variable → ⊥) → handed_out self.new ≡ handed_out self.old }
     {
         if at >= self.decisions.len() {
             return;

@@ -37,3 +37,11 @@ pub returns-else-is_free-clause-done : goal.returns-else-is_free-clause-done
 returns-else-is_free-clause-done c =
     let kept : Spells c.spelled-before.result (take c.args.at (entries c.args.self.now)) = spells_all _ _ (cc) in
     λ w l f. absurd (c.if-is_free.ensures (l, λ b. kept c.args.literal.variable b ∙ f b))
+
+pub returns-then-is_free-clause-left : goal.returns-then-is_free-clause-left
+returns-then-is_free-clause-left c =
+    let ds = entries c.args.self.now in
+    let free = c.if-is_free.ensures in
+    let w : c.args.at < length ds = omega (arith, c.if-at-len.false, c.len.ensures, c.args.self.now.decisions.ok.0) in
+    let kept : Spells c.spelled-before.result (take c.args.at ds) = spells_all _ _ (cc) in
+    λ n. absurd (n (w, free.0, free_in _ _ _ kept free.1))
