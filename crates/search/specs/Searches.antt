@@ -1,15 +1,18 @@
 -- What the steps of a search do: propagating, choosing, and jumping back.
-use Rattle.std.specs.Prelude.{◌≡◌, ℕ, ◌<◌, List, [], ◌∷◌, ◌++◌, Some, None, Option, vec_items}
+use Rattle.std.specs.Prelude.{◌≡◌, ℕ, ◌<◌, ◌≤◌, true, false, List, [], ◌∷◌, ◌++◌, length, Some, None, Option, vec_items}
+use Rattle.system.specs.Literals.{bit}
 use Rattle.masks.specs.Masks.{Implied}
 use Rattle.masks.specs.Questions.{Each, Given, Hopeless, AllMet, AllKept, Among, Within}
 use Rattle.masks.specs.declared.question.Question.{Question}
 use Rattle.masks.specs.declared.mask.ClauseMask.{ClauseMask}
 use Rattle.masks.specs.declared.mask.Standing.{Standing}
 use Rattle.masks.specs.declared.mask.Standing.TheVariants.{True, Open, Forces, False}
-use Rattle.trail.specs.Entries.{entries}
+use Rattle.trail.specs.Entries.{entries, made_true}
+use Rattle.trail.specs.Changes.{Appended}
 use Rattle.trail.specs.Reasons.{Refuted, Sound, height}
 use Rattle.trail.specs.declared.decision.Decision.{Decision}
-use Rattle.trail.specs.declared.decision.Forcing.TheVariants.{Forced}
+use Rattle.trail.specs.declared.decision.Forcing.TheVariants.{Chosen, Forced}
+use Rattle.search.specs.declared.learned.TheConstants.{MOST}
 use Rattle.search.specs.declared.progress.Progress.{Progress}
 use Rattle.search.specs.declared.progress.Progress.TheVariants.{Satisfied, Further}
 use Rattle.search.specs.declared.search.Search.{Search}
@@ -18,17 +21,22 @@ use Rattle.search.specs.declared.search.Search.{Search}
 abbrev pub Extends : List Decision → List Decision → Type 0
 Extends ds es = (more : List Decision) × (es ≡ ds ++ more)
 
--- a clause that was looked at and found all false is false by the decisions
-abbrev pub Visited : ClauseMask → List Decision → Standing → Type 0
-Visited m ds True = Unit {0}
-Visited m ds Open = Unit {0}
-Visited m ds (Forces l) = Unit {0}
-Visited m ds False = Refuted m ds
+-- what looking at a clause brings, by how it stood: a literal that it forces is decided, with the clause as the reason, and else
+-- the decisions stay; one that is all false is so by the decisions
+abbrev pub Brings : ClauseMask → List Decision → Standing → List Decision → Type 0
+Brings m ds True es = es ≡ ds
+Brings m ds Open es = es ≡ ds
+Brings m ds (Forces l) es = Appended ds l.variable l.value (Forced m) es
+Brings m ds False es = (es ≡ ds) × Refuted m es
 
 -- a clause that is all false, and implied wherever the premise holds
 abbrev pub Conflict : List Decision → (List (List ℕ) → Type 0) → Option ClauseMask → Type 0
 Conflict ds premise None = Unit {0}
 Conflict ds premise (Some m) = Refuted m ds × ((base : List (List ℕ)) → premise base → Implied base m)
+
+-- the learned clauses, or none of them where there is no room for one more
+abbrev pub Roomy : List ClauseMask → List ClauseMask → Type 0
+Roomy ms ns = (length ms < MOST → ns ≡ ms) × (MOST ≤ length ms → ns ≡ [])
 
 -- what a question asks about: the clauses that are held and the literals that are assumed follow from base
 abbrev pub Asked : Question → List (List ℕ) → Type 0
@@ -56,13 +64,20 @@ Taught s =
     (m : ClauseMask) × (d : Decision) × (ds : List Decision) × (ms : List ClauseMask)
     × (entries s.trail ≡ ds ++ d ∷ []) × (d.forcing ≡ Forced m) × (vec_items s.learned.clauses ≡ ms ++ m ∷ [])
 
+-- the lowest of the variables was chosen, as false
+pub record Chooses (x : ℕ) (ds es : List Decision) : Type 0 where
+  pub lowest : ℕ
+  pub is : bit x lowest ≡ true
+  pub first : (j : ℕ) → j < lowest → bit x j ≡ false
+  pub made : Appended ds lowest false Chosen es
+
 -- the number of the trail rises
 abbrev pub Rises : Search → Search → Type 0
 Rises before after = height 128 (entries before.trail) < height 128 (entries after.trail)
 
 -- by the trail every clause and every assumed literal is true
 abbrev pub Satisfies : Search → Question → Type 0
-Satisfies s question = AllMet question.masks.now s.trail.assigned × AllKept question.assumed.now s.trail.assigned
+Satisfies s question = AllMet question.masks.now (made_true s.trail) × AllKept question.assumed.now (made_true s.trail)
 
 -- what a turn comes to: all is true, or the number has risen
 abbrev pub Turned : Question → Search → Search → Progress → Type 0

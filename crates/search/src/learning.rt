@@ -3,19 +3,22 @@ ghost use Rattle.std.specs.Prelude.{◌≡◌, ℕ, ◌<◌, List, [], ◌∷◌
 ghost use Rattle.masks.specs.Masks.{Implied};
 ghost use Rattle.masks.specs.Questions.{Each};
 ghost use Rattle.masks.specs.declared.mask.ClauseMask.{ClauseMask};
+ghost use Rattle.search.specs.Searches.{Roomy};
 
-use crate::learned::Learned;
+use crate::learned::{Learned, MOST};
 use crate::watches::Watches;
 use masks::ClauseMask;
 use std::alloc::{AllocError, Global};
 
 impl Learned {
+    // No clause, with room for as many as are kept.
     pub fn new(heap: Global) -> Result<Learned, AllocError> {
-        let clauses = Vec::with_capacity(heap, 1024)?;
-        let watches = Watches::new(heap, 1024)?;
+        let clauses = Vec::with_capacity(heap, MOST)?;
+        let watches = Watches::new(heap, MOST)?;
         Ok(Learned { clauses, watches })
     }
 
+    // Lets all go.
     pub fn clear(&mut self)
         ensures { self.new.clauses.items ≡ [] }
     {
@@ -25,17 +28,18 @@ impl Learned {
 
     // Lets all go where there is no room for one more.
     fn make_room(&mut self)
-        ensures room { vec_len self.new.clauses < 1024 }
+        ensures room { vec_len self.new.clauses < MOST }
+        ensures kept { Roomy self.old.clauses.items self.new.clauses.items }
         ensures each { (base : List (List ℕ)) → Each base self.old.clauses.items → Each base self.new.clauses.items }
     {
-        if self.clauses.len() >= 1024 {
+        if self.clauses.len() >= MOST {
             self.clear();
         }
     }
 
     // Keeps the clause, watched by two of its variables, and lets the others go where there is no room.
     pub fn remember(&mut self, clause: ClauseMask, one: u8, other: u8)
-        ensures last { (earlier : List ClauseMask) × (self.new.clauses.items ≡ earlier ++ clause ∷ []) }
+        ensures last { (earlier : List ClauseMask) × Roomy self.old.clauses.items earlier × (self.new.clauses.items ≡ earlier ++ clause ∷ []) }
         ensures each { (base : List (List ℕ)) → Each base self.old.clauses.items → Implied base clause → Each base self.new.clauses.items }
     {
         self.make_room();

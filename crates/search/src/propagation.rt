@@ -2,9 +2,10 @@
 ghost use Rattle.std.specs.Prelude.{◌≡◌, ℕ, List};
 ghost use Rattle.masks.specs.Masks.{Implied};
 ghost use Rattle.masks.specs.Questions.{Each};
-ghost use Rattle.trail.specs.Entries.{entries};
+ghost use Rattle.masks.specs.Standings.{Stands};
+ghost use Rattle.trail.specs.Entries.{entries, made_true, handed_out};
 ghost use Rattle.trail.specs.Reasons.{Sound};
-ghost use Rattle.search.specs.Searches.{Extends, Conflict, Visited, Upheld, Keeps};
+ghost use Rattle.search.specs.Searches.{Extends, Conflict, Brings, Upheld, Keeps};
 
 use crate::search::Search;
 use crate::watches::Watches;
@@ -21,8 +22,9 @@ fn falsified(decision: Decision) -> u8 {
 fn visit(trail: &mut Trail, mask: ClauseMask) -> Standing
     ensures more { Extends (entries trail.old) (entries trail.new) }
     ensures sound { (base : List (List ℕ)) → Implied base mask → Sound base (entries trail.old) → Sound base (entries trail.new) }
-    ensures found { Visited mask (entries trail.new) result }
-    ensures done { trail.new.done ≡ trail.old.done }
+    ensures stood { Stands mask (made_true trail.old) result }
+    ensures brings { Brings mask (entries trail.old) result (entries trail.new) }
+    ensures done { handed_out trail.new ≡ handed_out trail.old }
 {
     let stood = mask.standing(trail.assigned());
     if let Standing::Forces(literal) = stood {
@@ -41,7 +43,7 @@ fn follow(
     ensures more { Extends (entries trail.old) (entries trail.new) }
     ensures sound { (base : List (List ℕ)) → Each base masks.now → Sound base (entries trail.old) → Sound base (entries trail.new) }
     ensures found { Conflict (entries trail.new) (λ base. Each base masks.now) result }
-    ensures done { trail.new.done ≡ trail.old.done }
+    ensures done { handed_out trail.new ≡ handed_out trail.old }
 {
     let mut at = watches.first(literal);
     // stays a counted loop: no contract tells that the links of a literal go round in no circle

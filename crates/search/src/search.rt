@@ -1,8 +1,9 @@
-// The memory of a search: made once, and used again for every question.
+// The search.
 use crate::learned::Learned;
 use crate::watches::Watches;
 use trail::Trail;
 
+// The memory of a search: made once, and used again for every question.
 #[derive(Drop)]
 pub struct Search {
     pub(crate) trail: Trail,

@@ -4,9 +4,9 @@ ghost use Rattle.system.specs.Literals.{bit};
 ghost use Rattle.masks.specs.Masks.{Implied};
 ghost use Rattle.masks.specs.Questions.{Units, Decided};
 ghost use Rattle.masks.specs.Standings.{Unassigned};
-ghost use Rattle.trail.specs.Entries.{entries};
+ghost use Rattle.trail.specs.Entries.{entries, made_true};
 ghost use Rattle.trail.specs.Reasons.{Refuted};
-ghost use Rattle.search.specs.Searches.{Conflict, Asked, Occurring, Keeps, Refutes, Taught, Rises, Satisfies, Turned};
+ghost use Rattle.search.specs.Searches.{Conflict, Asked, Occurring, Keeps, Refutes, Taught, Chooses, Rises, Satisfies, Turned};
 
 use crate::learned::Learned;
 use crate::progress::{Progress, Unsatisfiable};
@@ -60,9 +60,10 @@ impl Search {
     // Chooses one of the variables, the lowest, as false.
     fn choose(&mut self, candidates: u128)
         requires some { 0 < candidates }
-        requires free { (j : ℕ) → bit candidates j ≡ true → Unassigned self.old.trail.assigned j }
+        requires free { (j : ℕ) → bit candidates j ≡ true → Unassigned (made_true self.old.trail) j }
         ensures keeps { Keeps (λ base. Unit {0}) self.old self.new }
         ensures rises { Rises self.old self.new }
+        ensures chosen { Chooses candidates (entries self.old.trail) (entries self.new.trail) }
     {
         let literal = Literal {
             variable: candidates.trailing_zeros() as u8,

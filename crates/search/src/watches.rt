@@ -23,6 +23,7 @@ pub struct Cursor {
     place: Option<usize>,
 }
 
+// What is watched, by literal.
 #[derive(Drop)]
 pub struct Watches {
     // for each literal the place of its first link
@@ -53,11 +54,13 @@ impl Watches {
         })
     }
 
+    // Watches nothing.
     pub fn clear(&mut self) {
         self.links.clear();
         self.heads = [None; 256];
     }
 
+    // How many links there are.
     pub fn len(&self) -> usize {
         self.links.len()
     }

@@ -18,4 +18,4 @@ returns-in-False-clause-sound c base each sound =
 
 pub returns-in-False-clause-found : goal.returns-in-False-clause-found
 returns-in-False-clause-found c =
-    let found = c.in_ok-mask.ensures.lookup in (c.in-False.ensures.found, λ base each. each_at base c.args.masks.now _ _ each found.3.0 found.1)
+    let found = c.in_ok-mask.ensures.lookup in (c.in-False.ensures.brings.1, λ base each. each_at base c.args.masks.now _ _ each found.3.0 found.1)

@@ -16,5 +16,6 @@ returns c =
     let made = c.assign.ensures.assigned.taken l.small free in
     record {
       keeps = λ base given up. (sound_appended base ds es _ _ _ made up.0 tt, up.1);
+      chosen = record { lowest = _; is = l.is; first = l.first; made = made };
       rises = height_chosen ds es _ _ _ t.once l.small free made;
     }

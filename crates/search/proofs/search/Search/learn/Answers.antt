@@ -20,7 +20,7 @@ returns-clause-taught c =
     let jump = c.in_ok-jump.jump in
     let found = rw c.in_ok-jump.ensures.ok_part at c.analyze.ensures in
     let made = c.change.ensures.entries.taken found.0 found.1 found.2 in
-    (jump.clause, made.made, take jump.to (entries c.args.self.now.trail), c.remember.ensures.last.0, made.is, made.forcing, c.remember.ensures.last.1)
+    (jump.clause, made.made, take jump.to (entries c.args.self.now.trail), c.remember.ensures.last.0, made.is, made.forcing, c.remember.ensures.last.2)
 
 pub returns-clause-cases : goal.returns-clause-cases
 returns-clause-cases c =
