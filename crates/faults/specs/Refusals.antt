@@ -1,6 +1,6 @@
 -- The layer, number and place of every fault.
 -- A fault of a lower layer keeps its own inside one of an upper layer.
-use Rattle.std.specs.Prelude.{ℕ, List, ◌++◌, codes, decimal}
+use Rattle.std.specs.Prelude.{ℕ, max, List, ◌++◌, codes, decimal}
 use Rattle.faults.specs.declared.refusal.Refusal.{Refusal}
 use Rattle.faults.specs.declared.clause.ClauseFault.{ClauseFault}
 use Rattle.faults.specs.declared.clause.ClauseFault.TheVariants.{PastEnd, Variable, Order}
@@ -14,6 +14,10 @@ use Rattle.faults.specs.declared.work.WorkFault.TheVariants.{InCase, InCandidate
 -- layer, number and place as text, with a space between
 abbrev pub told : Refusal → List ℕ
 told r = decimal r.layer ++ (codes " " ++ (decimal r.number ++ (codes " " ++ decimal r.place)))
+
+-- the number by which C is told of a refusal, 1 where it has none
+abbrev pub error_code : Refusal → ℕ
+error_code r = max r.number 1
 
 abbrev pub clause_refusal : ClauseFault → Refusal
 clause_refusal (PastEnd at) = record { layer = 1; number = 17; place = at }

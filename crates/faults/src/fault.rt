@@ -3,8 +3,10 @@ ghost use Rattle.std.specs.Prelude.{◌≡◌};
 
 use crate::refusal::Refusal;
 
+// A fault, which tells its layer, number and place by one definition.
 pub trait Fault {
     ghost use Rattle.faults.specs.declared.refusal.Refusal.{Refusal};
+    ghost use Rattle.faults.specs.Refusals.{error_code};
 
     ghost refusal: { Self → Refusal };
 
@@ -32,5 +34,12 @@ pub trait Fault {
         ensures { result ≡ (refusal self.now).place }
     {
         self.refusal().place
+    }
+
+    // The number for C, where 0 says that nothing was refused: 1 where the refusal has none.
+    fn error_code(&self) -> u32
+        ensures { result ≡ error_code (refusal self.now) }
+    {
+        self.number().max(1)
     }
 }
