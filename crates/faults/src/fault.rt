@@ -28,8 +28,8 @@ pub trait Fault {
         self.refusal().number
     }
 
-    // What the refusal points at: a byte index, but for Short the count of bytes, for NoSuchClause the number that was
-    // given, and for Marks the number of the mark, or 0 for a wrong number of them.
+    // What the refusal points at: mostly the index of a byte; for Short how many bytes there are; for a clause, an entry or a
+    // state that there is not, the number that was given; for Marks and AgainstRules the number of the mark or entry.
     fn place(&self) -> usize
         ensures { result ≡ (refusal self.now).place }
     {
