@@ -12,7 +12,7 @@ use Rattle.layout.proofs.Ends.{start_bytes, step_bytes, safety_bytes, left_bytes
 use Rattle.faults.specs.declared.case.CaseFault.{CaseFault}
 use Rattle.clauses.specs.declared.scope.Scope.TheVariants.{Before, Across}
 use Rattle.lists.proofs.Spelled.{clauses_length, clauses_spelled, after_spelled}
-use Rattle.layout.specs.Sound.{Sound}
+use Rattle.layout.proofs.Sound.{Sound}
 use Rattle.layout.proofs.Parts.{sound_parts, parts_sound}
 use Rattle.clauses.proofs.Wellformed.{ClausesFormed, clauses_formed, formed_clauses, before_all, all_before, across_all, all_across}
 

@@ -1,3 +1,4 @@
+pub mod Sound
 pub mod Ends
 pub mod Parts
 pub mod Law

@@ -8,7 +8,7 @@ use Rattle.faults.specs.declared.case.ListName.TheVariants.{Start, Step, Safety}
 use Rattle.faults.proofs.Firsts.{first_none, none_first, unmet_none, none_unmet, inside_none}
 use Rattle.clauses.specs.declared.scope.Scope.{Scope}
 use Rattle.layout.specs.Reading.{field, step_place, safety_place, left_place, header_faults, section_faults, section_fault, case_faults, case_fault}
-use Rattle.layout.specs.Sound.{SectionSound, Sound}
+use Rattle.layout.proofs.Sound.{SectionSound, Sound}
 
 module _ (bs : List ℕ) where
   section_sound : (name : ListName) (scope : Scope) (stated count at : ℕ) → section_fault name stated scope count at bs ≡ None → SectionSound scope stated count at bs

@@ -2,4 +2,3 @@ pub mod Spelling
 pub mod Reading
 pub mod Headers
 pub mod Sections
-pub mod Sound

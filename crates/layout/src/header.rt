@@ -6,9 +6,10 @@ ghost use Rattle.layout.specs.Headers.{SectionRead, HeaderRead};
 use clauses::Scope;
 use faults::{CaseFault, ListName};
 
-// How many bytes a header has, and a case at most.
-pub const HEADER: usize = 18;
+// How many bytes a header has.
+pub(crate) const HEADER: usize = 18;
 
+// How many bytes a case has at most.
 const MOST: usize = 32768;
 
 // A section as the header states it: its list, the variables that its clauses may be about, how many clauses it has, and
@@ -45,7 +46,7 @@ fn word_at(bytes: &[u8], i: usize) -> u16
     u16::from_le_bytes([low, high])
 }
 
-// The same as a wider number. It stays, since it is public and promises a u32.
+// The same as a wider number.
 pub fn read_field(bytes: &[u8], i: usize) -> u32
     ensures { result ≡ field bytes.now i }
 {

@@ -1,5 +1,5 @@
--- A case without a fault, part by part.
-use Rattle.std.specs.Prelude.{◌≡◌, ℕ, ◌≤◌, List, length, drop, None}
+-- A case without a fault, part by part, as the law takes it. Assumes nothing.
+use Rattle.std.proofs.Common.{◌≡◌, ℕ, ◌≤◌, List, length, drop, None}
 use Rattle.clauses.specs.Reading.{clauses_fault}
 use Rattle.clauses.specs.declared.scope.Scope.{Scope}
 use Rattle.clauses.specs.declared.scope.Scope.TheVariants.{Before, Across}
