@@ -1,7 +1,8 @@
 // What a case that was read answers: clauses by their number.
-use crate::samples::{Refused, TWO, refused};
+use crate::reading::case_of;
 use cases::Case;
 use faults::ListName;
+use samples::{Refused, TWO, said};
 use std::test::Fail;
 
 // The place of a clause, its count of literals and the last of them.
@@ -19,8 +20,9 @@ const ROWS: [(ListName, usize, Answered); 8] = [
     (ListName::Step, usize::MAX, Err((3, 31, usize::MAX))),
 ];
 
+// What is answered, shortened so.
 fn answered(case: &Case, list: ListName, number: usize) -> Answered {
-    let clause = case.clause(list, number).map_err(|fault| refused(&fault))?;
+    let clause = said(case.clause(list, number))?;
     Ok((
         clause.at,
         clause.literals.len(),
@@ -30,7 +32,7 @@ fn answered(case: &Case, list: ListName, number: usize) -> Answered {
 
 #[test]
 fn clauses_by_number(rt: HostRuntime) -> Result<(), Fail> {
-    let case = Case::read(rt.alloc(), &TWO).map_err(|_| Fail::new("refused"))?;
+    let case = case_of(rt.alloc(), &TWO)?;
     let wrong = ROWS.iter().position(|(list, number, expected)| {
         answered(&case, *list, *number) != *expected
     });

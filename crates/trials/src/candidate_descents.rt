@@ -1,11 +1,12 @@
 // Descents of candidates over SWAP. As sets: marked candidates stay where each state that meets all of them is followed by
 // one that does, with its two relays swapped.
-use crate::samples::SWAP;
+use crate::reading::{case_of, loaded};
 use candidate_sieve::CandidateSieve;
 use cases::Case;
-use counting::Counting;
-use loading::load_case;
-use propagating::Propagating;
+use counting::Counter;
+use keeping::Engine;
+use samples::SWAP;
+use search::Search;
 use sieve::descend;
 use solver::{Capacity, Solver};
 use std::alloc::Global;
@@ -80,9 +81,9 @@ fn descended<S: Solver>(
 }
 
 // The first row that ends otherwise, of a solver that was loaded once.
-fn first_wrong<S: Solver + Drop>(heap: Global, mut solver: S) -> Result<Option<usize>, Fail> {
-    let case = Case::read(heap, &SWAP).map_err(|_| Fail::new("refused"))?;
-    load_case(&mut solver, &case).map_err(|_| Fail::new("no capacity"))?;
+fn first_wrong<E: Engine>(heap: Global) -> Result<Option<usize>, Fail> {
+    let case = case_of(heap, &SWAP)?;
+    let mut solver = loaded::<E>(heap, ROOM, &case)?;
     Ok(
         ROWS.iter().position(|(listed, given, expected)| {
             !descended(heap, &mut solver, &case, listed, given).is_some_and(|marks| marks.as_slice()
@@ -93,16 +94,12 @@ fn first_wrong<S: Solver + Drop>(heap: Global, mut solver: S) -> Result<Option<u
 
 #[test]
 fn counting_descends(rt: HostRuntime) -> Result<(), Fail> {
-    let heap = rt.alloc();
-    let solver = Counting::new(heap, ROOM)?;
-    assert_eq!(rt; first_wrong(heap, solver)?, None);
+    assert_eq!(rt; first_wrong::<Counter>(rt.alloc())?, None);
     Ok(())
 }
 
 #[test]
 fn propagating_descends(rt: HostRuntime) -> Result<(), Fail> {
-    let heap = rt.alloc();
-    let solver = Propagating::new(heap, ROOM)?;
-    assert_eq!(rt; first_wrong(heap, solver)?, None);
+    assert_eq!(rt; first_wrong::<Search>(rt.alloc())?, None);
     Ok(())
 }

@@ -2,14 +2,15 @@
 use crate::moves::{Moves, marks_of, moving_case};
 use candidate_sieve::CandidateSieve;
 use cases::Case;
-use counting::Counting;
+use counting::Counter;
+use keeping::{Engine, Keeping};
 use loading::load_case;
-use propagating::Propagating;
+use samples::off_candidates;
+use search::Search;
 use sieve::descend;
 use solver::{Capacity, Solver};
 use std::alloc::Global;
 use std::test::Fail;
-use system::literal_of;
 
 // The relays that are kept and those that become as the next one was; the marks given and those at the end, a bit for each
 // relay. The candidates are that a relay is off, for each in turn and then again from the first.
@@ -61,16 +62,6 @@ const ALL_ROOM: Capacity = Capacity {
     literals: 640,
 };
 
-// So many candidates, that a relay is off, in turn.
-pub fn off_candidates(heap: Global, relays: u8, count: usize) -> Option<Vec<u8>> {
-    let mut bytes = Vec::new(heap);
-    for relay in (0..relays).cycle().take(count) {
-        bytes.push(1).ok()?;
-        bytes.push(literal_of(relay, false)).ok()?;
-    }
-    Some(bytes)
-}
-
 // The marks at the end.
 pub fn descended<S: Solver>(
     heap: Global,
@@ -103,31 +94,38 @@ fn descends<S: Solver>(
     Some(ended == expected)
 }
 
-// The first row that ends otherwise.
-fn first_wrong<S: Solver + Drop>(
+// The first row that ends otherwise, of a solver with this room.
+fn first_wrong<E: Engine>(
     heap: Global,
-    mut solver: S,
+    room: Capacity,
     relays: u8,
     count: usize,
     rows: &[Row],
-) -> Option<usize> {
-    rows.iter().position(|row| descends(heap, &mut solver, relays, count, row) != Some(true))
+) -> Result<Option<usize>, Fail> {
+    let mut solver = Keeping::<E>::new(heap, room)?;
+    Ok(rows.iter().position(|row| descends(heap, &mut solver, relays, count, row) != Some(true)))
 }
 
 #[test]
 fn counting_descends(rt: HostRuntime) -> Result<(), Fail> {
     let heap = rt.alloc();
-    let solver = Counting::new(heap, FOUR_ROOM)?;
-    assert_eq!(rt; first_wrong(heap, solver, 4, 8, &FOUR_ROWS), None);
+    assert_eq!(rt;
+        first_wrong::<Counter>(heap, FOUR_ROOM, 4, 8, &FOUR_ROWS)?,
+        None
+    );
     Ok(())
 }
 
 #[test]
 fn propagating_descends(rt: HostRuntime) -> Result<(), Fail> {
     let heap = rt.alloc();
-    let solver = Propagating::new(heap, FOUR_ROOM)?;
-    assert_eq!(rt; first_wrong(heap, solver, 4, 8, &FOUR_ROWS), None);
-    let solver = Propagating::new(heap, ALL_ROOM)?;
-    assert_eq!(rt; first_wrong(heap, solver, 32, 512, &ALL_ROWS), None);
+    assert_eq!(rt;
+        first_wrong::<Search>(heap, FOUR_ROOM, 4, 8, &FOUR_ROWS)?,
+        None
+    );
+    assert_eq!(rt;
+        first_wrong::<Search>(heap, ALL_ROOM, 32, 512, &ALL_ROWS)?,
+        None
+    );
     Ok(())
 }

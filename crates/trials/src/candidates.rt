@@ -1,6 +1,7 @@
 // Lists of candidates over two relays.
-use crate::samples::{Refused, put, refused};
+use crate::reading::put;
 use clauses::read_candidates;
+use samples::{Refused, said};
 use std::alloc::{AllocError, Global};
 
 // How many candidates there are.
@@ -30,12 +31,12 @@ const LONG_ROWS: [(usize, usize, [u8; 2], Listed); 6] = [
     (514, 513, [1, 0], Err((1, 17, 513))),
 ];
 
+// What is said of the bytes as a list over two relays.
 fn listed(bytes: &[u8]) -> Listed {
-    read_candidates(2, bytes)
-        .map(|list| list.len())
-        .map_err(|fault| refused(&fault))
+    Ok(said(read_candidates(2, bytes))?.len())
 }
 
+// So many bytes, all 0 but for these.
 fn long_list(heap: Global, len: usize, at: usize, values: &[u8]) -> Result<Vec<u8>, AllocError> {
     let mut bytes = vec![in heap; 0; len]?;
     put(bytes.as_mut_slice(), at, values);

@@ -1,7 +1,9 @@
 // Both solvers at the edges of what they hold: without capacity, with it just reached, and cut beyond the end.
-use counting::Counting;
-use propagating::Propagating;
+use counting::Counter;
+use keeping::{Engine, Keeping};
+use search::Search;
 use solver::{Answer, Capacity, Solver};
+use std::alloc::Global;
 use std::test::Fail;
 
 // What is asked of a solver.
@@ -140,14 +142,14 @@ fn told<S: Solver>(solver: &mut S, call: Call) -> Said {
 }
 
 // The first row of which anything is otherwise, the capacities too.
-fn first_wrong<S: Solver + Drop>(
-    mut solver: S,
+fn first_row<S: Solver>(
+    solver: &mut S,
     clauses: usize,
     literals: usize,
     rows: &[Row],
 ) -> Option<usize> {
     rows.iter().position(|(call, expected, held, size)| {
-        told(&mut solver, *call) != *expected
+        told(solver, *call) != *expected
             || solver.clauses_held() != *held
             || solver.literals_held() != *size
             || solver.clause_capacity() != clauses
@@ -155,22 +157,29 @@ fn first_wrong<S: Solver + Drop>(
     })
 }
 
+// The first table of which a row is otherwise, and that row.
+fn first_wrong<E: Engine>(heap: Global) -> Result<Option<(usize, usize)>, Fail> {
+    for (table, (clauses, literals, rows)) in TABLES.iter().enumerate() {
+        let room = Capacity {
+            clauses: *clauses,
+            literals: *literals,
+        };
+        let mut solver = Keeping::<E>::new(heap, room)?;
+        if let Some(row) = first_row(&mut solver, *clauses, *literals, rows) {
+            return Ok(Some((table, row)));
+        }
+    }
+    Ok(None)
+}
+
 #[test]
 fn counting_holds(rt: HostRuntime) -> Result<(), Fail> {
-    let heap = rt.alloc();
-    for (clauses, literals, rows) in TABLES {
-        let solver = Counting::new(heap, Capacity { clauses, literals })?;
-        assert_eq!(rt; first_wrong(solver, clauses, literals, rows), None);
-    }
+    assert_eq!(rt; first_wrong::<Counter>(rt.alloc())?, None);
     Ok(())
 }
 
 #[test]
 fn propagating_holds(rt: HostRuntime) -> Result<(), Fail> {
-    let heap = rt.alloc();
-    for (clauses, literals, rows) in TABLES {
-        let solver = Propagating::new(heap, Capacity { clauses, literals })?;
-        assert_eq!(rt; first_wrong(solver, clauses, literals, rows), None);
-    }
+    assert_eq!(rt; first_wrong::<Search>(rt.alloc())?, None);
     Ok(())
 }

@@ -1,5 +1,6 @@
 // Numbers of the header and bytes of the clauses, each changed alone.
-use crate::samples::{ACCEPTED, Said, THREE, TWO, put, said};
+use crate::reading::{put, read_says};
+use samples::{ACCEPTED, Said, THREE, TWO};
 
 // The byte of the number, its new value, and what is then said.
 const HEADER_ROWS: [(usize, u16, Said); 31] = [
@@ -95,7 +96,7 @@ fn header_numbers(rt: HostRuntime) {
     let wrong = HEADER_ROWS.iter().position(|(at, value, expected)| {
         let mut bytes = TWO;
         put(&mut bytes, *at, &value.to_le_bytes());
-        said(heap, &bytes) != *expected
+        read_says(heap, &bytes) != *expected
     });
     assert_eq!(rt; wrong, None);
 }
@@ -106,7 +107,7 @@ fn clause_bytes(rt: HostRuntime) {
     let wrong = CLAUSE_ROWS.iter().position(|(at, value, expected)| {
         let mut bytes = THREE;
         put(&mut bytes, *at, &[*value]);
-        said(heap, &bytes) != *expected
+        read_says(heap, &bytes) != *expected
     });
     assert_eq!(rt; wrong, None);
 }

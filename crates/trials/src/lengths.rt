@@ -1,5 +1,6 @@
 // Cases cut short, drawn out, and as long as one may be.
-use crate::samples::{ACCEPTED, Said, THREE, said};
+use crate::reading::read_says;
+use samples::{ACCEPTED, Said, THREE};
 use std::alloc::{AllocError, Global};
 use std::test::Fail;
 
@@ -26,7 +27,7 @@ fn cut_at_every_byte(rt: HostRuntime) {
         let mut bytes = THREE;
         bytes[16] = *total;
         let len = usize::from(*total);
-        said(heap, &bytes[..len]) != cut_says(len)
+        read_says(heap, &bytes[..len]) != cut_says(len)
     });
     assert_eq!(rt; wrong, None);
 }
@@ -39,8 +40,8 @@ fn one_byte_left_over(rt: HostRuntime) {
     let heap = rt.alloc();
     let mut longer = SMALLEST;
     longer[16] = 19;
-    assert_eq!(rt; said(heap, &SMALLEST[..18]), ACCEPTED);
-    assert_eq!(rt; said(heap, &longer), Err((2, 20, 18)));
+    let said = (read_says(heap, &SMALLEST[..18]), read_says(heap, &longer));
+    assert_eq!(rt; said, (ACCEPTED, Err((2, 20, 18))));
 }
 
 // 32 relays, 64 inputs, and 254 step clauses: 253 over all 128 variables, 129 bytes each, and one over as many as are given.
@@ -66,14 +67,16 @@ fn push_clause(bytes: &mut Vec<u8>, variables: u8) -> Result<(), AllocError> {
     Ok(())
 }
 
+// How long such a case is, and what is said of it.
+fn long_says(heap: Global, last: u8) -> Result<(usize, Said), AllocError> {
+    let bytes = long_case(heap, last)?;
+    Ok((bytes.len(), read_says(heap, bytes.as_slice())))
+}
+
 #[test]
 fn as_long_as_may_be(rt: HostRuntime) -> Result<(), Fail> {
     let heap = rt.alloc();
-    let longest = long_case(heap, 112)?;
-    assert_eq!(rt; longest.len(), 32768);
-    assert_eq!(rt; said(heap, longest.as_slice()), ACCEPTED);
-    let too_long = long_case(heap, 113)?;
-    assert_eq!(rt; too_long.len(), 32769);
-    assert_eq!(rt; said(heap, too_long.as_slice()), Err((2, 15, 16)));
+    let said = (long_says(heap, 112)?, long_says(heap, 113)?);
+    assert_eq!(rt; said, ((32768, ACCEPTED), (32769, Err((2, 15, 16)))));
     Ok(())
 }

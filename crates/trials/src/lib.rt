@@ -1,8 +1,7 @@
-// Cases at the limits of the format, run: tables of changed bytes with the refusal that each must bring. The expected
-// values are worked out by hand from the description of the format, not from the code. And tables of calls for both solvers, at
-// the edges of what they hold and of the variables that there are. And tables of descents over small systems and over as many
-// relays and candidates as there may be: the marks given, and those that are left. And tables of works: cases judged, takings, what
-// calls and readings refuse and in which order, and lists of calls.
+// Bytes, solvers and sieves at the limits, run. Tables of changed bytes with the refusal that each must bring: the expected values are
+// worked out by hand from the description of the format, not from the code. Tables of calls for both solvers, at the edges of what
+// they hold and of the variables that there are. Tables of descents over small systems and over as many relays and candidates as
+// there may be: the marks given, and those that are left.
 #![tactic(auto)]
 
 #[cfg(test)]
@@ -18,8 +17,6 @@ mod capacities;
 #[cfg(test)]
 mod changes;
 #[cfg(test)]
-mod judged;
-#[cfg(test)]
 mod lengths;
 #[cfg(test)]
 mod literal_descents;
@@ -30,26 +27,10 @@ mod many_candidates;
 #[cfg(test)]
 mod moves;
 #[cfg(test)]
-mod samples;
-#[cfg(test)]
-mod seven;
+mod reading;
 #[cfg(test)]
 mod sift_refusals;
 #[cfg(test)]
 mod solvers;
 #[cfg(test)]
-mod takings;
-#[cfg(test)]
 mod variables;
-#[cfg(test)]
-mod work_histories;
-#[cfg(test)]
-mod work_reads;
-#[cfg(test)]
-mod work_refusals;
-#[cfg(test)]
-mod work_rooms;
-#[cfg(test)]
-mod work_rules;
-#[cfg(test)]
-mod works;

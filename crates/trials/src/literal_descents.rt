@@ -1,13 +1,15 @@
 // Descents of the literals of TWO that are false at a state. There a safe state has relay 0 off, and after a step both relays
 // are as relay 1 was: both off after neither was on, both on after relay 1 was on.
-use crate::samples::TWO;
+use crate::reading::{case_of, loaded};
 use cases::Case;
-use counting::Counting;
+use counting::Counter;
+use keeping::Engine;
 use literal_sieve::LiteralSieve;
-use loading::load_case;
-use propagating::Propagating;
+use samples::TWO;
+use search::Search;
 use sieve::descend;
 use solver::{Capacity, Solver};
+use std::alloc::Global;
 use std::test::Fail;
 
 // Room for the step clauses and the safety clause of TWO, and one clause of two literals.
@@ -65,33 +67,24 @@ fn descends<S: Solver>(
 }
 
 // The first row that ends otherwise, of a solver that was loaded once.
-fn first_wrong<S: Solver + Drop>(case: &Case, mut solver: S) -> Result<Option<usize>, Fail> {
-    load_case(&mut solver, case).map_err(|_| Fail::new("no capacity"))?;
+fn first_wrong<E: Engine>(heap: Global) -> Result<Option<usize>, Fail> {
+    let case = case_of(heap, &TWO)?;
+    let mut solver = loaded::<E>(heap, ROOM, &case)?;
     Ok(
-        ROWS.iter().position(|(state, given, end)| !descends(
-            &mut solver,
-            case,
-            *state,
-            *given,
-            *end,
-        )),
+        ROWS.iter().position(|(state, given, end)| {
+            !descends(&mut solver, &case, *state, *given, *end)
+        }),
     )
 }
 
 #[test]
 fn counting_descends(rt: HostRuntime) -> Result<(), Fail> {
-    let heap = rt.alloc();
-    let case = Case::read(heap, &TWO).map_err(|_| Fail::new("refused"))?;
-    let solver = Counting::new(heap, ROOM)?;
-    assert_eq!(rt; first_wrong(&case, solver)?, None);
+    assert_eq!(rt; first_wrong::<Counter>(rt.alloc())?, None);
     Ok(())
 }
 
 #[test]
 fn propagating_descends(rt: HostRuntime) -> Result<(), Fail> {
-    let heap = rt.alloc();
-    let case = Case::read(heap, &TWO).map_err(|_| Fail::new("refused"))?;
-    let solver = Propagating::new(heap, ROOM)?;
-    assert_eq!(rt; first_wrong(&case, solver)?, None);
+    assert_eq!(rt; first_wrong::<Search>(rt.alloc())?, None);
     Ok(())
 }

@@ -2,10 +2,11 @@
 // true where one of the marked relays differs from the state.
 use crate::moves::{Moves, marks_of, moving_case};
 use cases::Case;
-use counting::Counting;
+use counting::Counter;
+use keeping::{Engine, Keeping};
 use literal_sieve::LiteralSieve;
 use loading::load_case;
-use propagating::Propagating;
+use search::Search;
 use sieve::descend;
 use solver::{Capacity, Solver};
 use std::alloc::Global;
@@ -74,50 +75,46 @@ const ALL_ROOM: Capacity = Capacity {
     literals: 160,
 };
 
-// The marks at the end.
-fn descended<S: Solver>(heap: Global, solver: &mut S, relays: u8, row: &Row) -> Option<Vec<u8>> {
-    let (kept, moved, state, given, _end) = *row;
+// Whether the descent ends as the row says.
+fn descends<S: Solver>(heap: Global, solver: &mut S, relays: u8, row: &Row) -> Option<bool> {
+    let (kept, moved, state, given, end) = *row;
     let bytes = moving_case(heap, relays, Moves { kept, moved })?;
     let case = Case::read(heap, bytes.as_slice()).ok()?;
     load_case(solver, &case).ok()?;
+    let sieve = LiteralSieve::new(&case, state);
     let mut marks = marks_of(heap, relays, given, usize::from(relays))?;
-    descend(
-        &LiteralSieve::new(&case, state),
-        solver,
-        marks.as_mut_slice(),
-    )
-    .ok()?;
-    Some(marks)
+    descend(&sieve, solver, marks.as_mut_slice()).ok()?;
+    Some(marks == marks_of(heap, relays, end, usize::from(relays))?)
 }
 
-// The first row that ends otherwise.
-fn first_wrong<S: Solver + Drop>(
+// The first row that ends otherwise, of a solver with this room.
+fn first_wrong<E: Engine>(
     heap: Global,
-    mut solver: S,
+    room: Capacity,
     relays: u8,
     rows: &[Row],
-) -> Option<usize> {
-    rows.iter().position(|row| {
-        let expected = marks_of(heap, relays, row.4, usize::from(relays));
-        let marks = descended(heap, &mut solver, relays, row);
-        marks.is_none() || marks != expected
-    })
+) -> Result<Option<usize>, Fail> {
+    let mut solver = Keeping::<E>::new(heap, room)?;
+    Ok(rows.iter().position(|row| descends(heap, &mut solver, relays, row) != Some(true)))
 }
 
 #[test]
 fn counting_descends(rt: HostRuntime) -> Result<(), Fail> {
     let heap = rt.alloc();
-    let solver = Counting::new(heap, FOUR_ROOM)?;
-    assert_eq!(rt; first_wrong(heap, solver, 4, &FOUR_ROWS), None);
+    assert_eq!(rt;
+        first_wrong::<Counter>(heap, FOUR_ROOM, 4, &FOUR_ROWS)?,
+        None
+    );
     Ok(())
 }
 
 #[test]
 fn propagating_descends(rt: HostRuntime) -> Result<(), Fail> {
     let heap = rt.alloc();
-    let solver = Propagating::new(heap, FOUR_ROOM)?;
-    assert_eq!(rt; first_wrong(heap, solver, 4, &FOUR_ROWS), None);
-    let solver = Propagating::new(heap, ALL_ROOM)?;
-    assert_eq!(rt; first_wrong(heap, solver, 32, &ALL_ROWS), None);
+    assert_eq!(rt;
+        first_wrong::<Search>(heap, FOUR_ROOM, 4, &FOUR_ROWS)?,
+        None
+    );
+    assert_eq!(rt; first_wrong::<Search>(heap, ALL_ROOM, 32, &ALL_ROWS)?, None);
     Ok(())
 }

@@ -1,12 +1,13 @@
 // As many candidates as there may be, and more.
-use crate::candidate_moves::{descended, off_candidates};
+use crate::candidate_moves::descended;
 use crate::moves::{Moves, marks_of, moving_case};
-use crate::samples::{Refused, TWO, refused};
+use crate::reading::case_of;
 use candidate_sieve::CandidateSieve;
 use cases::Case;
 use clauses::MOST_CANDIDATES;
 use literal_sieve::LiteralSieve;
 use propagating::Propagating;
+use samples::{Refused, TWO, off_candidates, said};
 use sieve::Sieve;
 use solver::{Capacity, Solver};
 use std::alloc::Global;
@@ -93,17 +94,16 @@ fn clauses_of_all_relays(rt: HostRuntime) -> Result<(), Fail> {
 // How many places so many candidates make.
 fn places(heap: Global, case: &Case, count: usize) -> Option<Result<usize, Refused>> {
     let listed = off_candidates(heap, 2, count)?;
-    let read = CandidateSieve::read(case, listed.as_slice());
-    Some(
-        read.map(|sieve| sieve.places())
-            .map_err(|fault| refused(&fault)),
-    )
+    Some(match said(CandidateSieve::read(case, listed.as_slice())) {
+        Ok(sieve) => Ok(sieve.places()),
+        Err(refusal) => Err(refusal),
+    })
 }
 
 #[test]
 fn counts_read(rt: HostRuntime) -> Result<(), Fail> {
     let heap = rt.alloc();
-    let case = Case::read(heap, &TWO).map_err(|_| Fail::new("refused"))?;
+    let case = case_of(heap, &TWO)?;
     let wrong = COUNT_ROWS.iter().position(|(count, expected)| places(heap, &case, *count)
         != Some(*expected));
     assert_eq!(rt; wrong, None);
@@ -112,7 +112,10 @@ fn counts_read(rt: HostRuntime) -> Result<(), Fail> {
 
 #[test]
 fn most_places(rt: HostRuntime) {
-    assert_eq!(rt; (LiteralSieve::limit(), LiteralSieve::MOST), (32, 32));
-    assert_eq!(rt; (CandidateSieve::limit(), CandidateSieve::MOST), (512, 512));
-    assert_eq!(rt; MOST_CANDIDATES, 512);
+    let literals = (LiteralSieve::limit(), LiteralSieve::MOST);
+    let candidates = (CandidateSieve::limit(), CandidateSieve::MOST);
+    assert_eq!(rt;
+        (literals, candidates, MOST_CANDIDATES),
+        ((32, 32), (512, 512), 512)
+    );
 }

@@ -1,13 +1,14 @@
 // What sifting and the descent refuse: marks, and a solver with too little room. Either leaves the marks and what the solver
 // holds, where it refuses and also where the marks are closed.
-use crate::samples::{ACCEPTED, SWAP, Said, TWO, refused};
+use crate::reading::case_of;
 use candidate_sieve::CandidateSieve;
 use cases::Case;
-use counting::Counting;
-use faults::WorkFault;
+use counting::Counter;
+use keeping::{Engine, Keeping};
 use literal_sieve::LiteralSieve;
 use loading::load_case;
-use propagating::Propagating;
+use samples::{ACCEPTED, NO_ROOM, SWAP, Said, TWO, held, said};
+use search::Search;
 use sieve::{Sieve, descend};
 use solver::{Capacity, Solver};
 use std::alloc::Global;
@@ -15,8 +16,6 @@ use std::test::Fail;
 
 // The clauses and literals that fit, the marks, and what is said.
 type Row = (usize, usize, &'static [u8], Said);
-
-const NO_ROOM: Said = Err((3, 45, 0));
 
 const WRONG_NUMBER: Said = Err((3, 33, 0));
 
@@ -91,21 +90,6 @@ const CANDIDATE_ROWS: [Row; 27] = [
     (4, 8, &[], WRONG_NUMBER),
 ];
 
-fn room(row: &Row) -> Capacity {
-    Capacity {
-        clauses: row.0,
-        literals: row.1,
-    }
-}
-
-fn said(answer: Result<(), WorkFault>) -> Said {
-    answer.map_err(|fault| refused(&fault))
-}
-
-fn held<S: Solver>(solver: &S) -> (usize, usize) {
-    (solver.clauses_held(), solver.literals_held())
-}
-
 // Whether both calls say what the row says, and each leaves the marks and how much is held.
 fn both_say<V: Sieve, S: Solver>(sieve: &V, solver: &mut S, marks: &mut [u8], row: &Row) -> bool {
     let before = held(solver);
@@ -115,68 +99,48 @@ fn both_say<V: Sieve, S: Solver>(sieve: &V, solver: &mut S, marks: &mut [u8], ro
     left && *marks == *row.2 && held(solver) == before && sifted == row.3 && descended == row.3
 }
 
-// The same of a solver that is first loaded with the case.
-fn loaded_says<V: Sieve, S: Solver + Drop>(
+// The same of a solver with the row's room that is first loaded with the case.
+fn loaded_says<E: Engine, V: Sieve>(
     heap: Global,
     case: &Case,
     sieve: &V,
-    mut solver: S,
     row: &Row,
-) -> bool {
-    let Ok(mut marks) = Vec::from_slice(heap, row.2) else {
-        return false;
+) -> Option<bool> {
+    let room = Capacity {
+        clauses: row.0,
+        literals: row.1,
     };
-    load_case(&mut solver, case).is_ok() && both_say(sieve, &mut solver, marks.as_mut_slice(), row)
+    let mut solver = Keeping::<E>::new(heap, room).ok()?;
+    load_case(&mut solver, case).ok()?;
+    let mut marks = Vec::from_slice(heap, row.2).ok()?;
+    Some(both_say(sieve, &mut solver, marks.as_mut_slice(), row))
+}
+
+// The first row of each table that says otherwise.
+fn first_wrong<E: Engine>(heap: Global) -> Result<(Option<usize>, Option<usize>), Fail> {
+    let two = case_of(heap, &TWO)?;
+    let swap = case_of(heap, &SWAP)?;
+    let literals = LiteralSieve::new(&two, 2);
+    let candidates = CandidateSieve::read(&swap, &CANDIDATES).map_err(|_| Fail::new("refused"))?;
+    let literal = LITERAL_ROWS.iter().position(|row| loaded_says::<E, _>(heap, &two, &literals, row)
+        != Some(true));
+    let candidate = CANDIDATE_ROWS.iter().position(|row| loaded_says::<E, _>(
+        heap,
+        &swap,
+        &candidates,
+        row,
+    ) != Some(true));
+    Ok((literal, candidate))
 }
 
 #[test]
 fn counting_refuses(rt: HostRuntime) -> Result<(), Fail> {
-    let heap = rt.alloc();
-    let two = Case::read(heap, &TWO).map_err(|_| Fail::new("refused"))?;
-    let swap = Case::read(heap, &SWAP).map_err(|_| Fail::new("refused"))?;
-    let literals = LiteralSieve::new(&two, 2);
-    let candidates = CandidateSieve::read(&swap, &CANDIDATES).map_err(|_| Fail::new("refused"))?;
-    let wrong = LITERAL_ROWS.iter().position(|row| {
-        !Counting::new(heap, room(row)).is_ok_and(|solver| loaded_says(
-            heap, &two, &literals, solver, row,
-        ))
-    });
-    assert_eq!(rt; wrong, None);
-    let wrong = CANDIDATE_ROWS.iter().position(|row| {
-        !Counting::new(heap, room(row)).is_ok_and(|solver| loaded_says(
-            heap,
-            &swap,
-            &candidates,
-            solver,
-            row,
-        ))
-    });
-    assert_eq!(rt; wrong, None);
+    assert_eq!(rt; first_wrong::<Counter>(rt.alloc())?, (None, None));
     Ok(())
 }
 
 #[test]
 fn propagating_refuses(rt: HostRuntime) -> Result<(), Fail> {
-    let heap = rt.alloc();
-    let two = Case::read(heap, &TWO).map_err(|_| Fail::new("refused"))?;
-    let swap = Case::read(heap, &SWAP).map_err(|_| Fail::new("refused"))?;
-    let literals = LiteralSieve::new(&two, 2);
-    let candidates = CandidateSieve::read(&swap, &CANDIDATES).map_err(|_| Fail::new("refused"))?;
-    let wrong = LITERAL_ROWS.iter().position(|row| {
-        !Propagating::new(heap, room(row)).is_ok_and(|solver| loaded_says(
-            heap, &two, &literals, solver, row,
-        ))
-    });
-    assert_eq!(rt; wrong, None);
-    let wrong = CANDIDATE_ROWS.iter().position(|row| {
-        !Propagating::new(heap, room(row)).is_ok_and(|solver| loaded_says(
-            heap,
-            &swap,
-            &candidates,
-            solver,
-            row,
-        ))
-    });
-    assert_eq!(rt; wrong, None);
+    assert_eq!(rt; first_wrong::<Search>(rt.alloc())?, (None, None));
     Ok(())
 }

@@ -1,7 +1,9 @@
 // Both solvers, made and asked the smallest questions.
-use counting::Counting;
-use propagating::Propagating;
+use counting::Counter;
+use keeping::{Engine, Keeping};
+use search::Search;
 use solver::{Answer, Capacity, Smallest, Solver, smallest_questions};
+use std::alloc::Global;
 use std::test::Fail;
 
 // Room for the clause of a literal and its negation.
@@ -32,27 +34,21 @@ const EXPECTED: (Smallest, Smallest) = (
     },
 );
 
-fn answers<S: Solver + Drop>(mut roomy: S, mut scarce: S) -> (Smallest, Smallest) {
-    let many = smallest_questions(&mut roomy);
-    let few = smallest_questions(&mut scarce);
-    (many, few)
+// What a solver says in either.
+fn answers<E: Engine>(heap: Global) -> Result<(Smallest, Smallest), Fail> {
+    let many = smallest_questions(&mut Keeping::<E>::new(heap, ROOMY)?);
+    let few = smallest_questions(&mut Keeping::<E>::new(heap, SCARCE)?);
+    Ok((many, few))
 }
 
 #[test]
 fn counting_answers(rt: HostRuntime) -> Result<(), Fail> {
-    let heap = rt.alloc();
-    let said = answers(Counting::new(heap, ROOMY)?, Counting::new(heap, SCARCE)?);
-    assert_eq!(rt; said, EXPECTED);
+    assert_eq!(rt; answers::<Counter>(rt.alloc())?, EXPECTED);
     Ok(())
 }
 
 #[test]
 fn propagating_answers(rt: HostRuntime) -> Result<(), Fail> {
-    let heap = rt.alloc();
-    let said = answers(
-        Propagating::new(heap, ROOMY)?,
-        Propagating::new(heap, SCARCE)?,
-    );
-    assert_eq!(rt; said, EXPECTED);
+    assert_eq!(rt; answers::<Search>(rt.alloc())?, EXPECTED);
     Ok(())
 }

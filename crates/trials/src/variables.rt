@@ -2,6 +2,7 @@
 // and false first. The counting one goes through them in this order, so it is asked only what an early one answers.
 use counting::Counting;
 use propagating::Propagating;
+use samples::held;
 use solver::{Answer, Capacity, NoCapacity, Solver};
 use std::test::Fail;
 
@@ -73,28 +74,40 @@ fn first_wrong<S: Solver>(solver: &mut S, rows: &[Row]) -> Option<usize> {
         .position(|(assumed, expected)| solver.query(assumed) != *expected)
 }
 
+// The first wrong row of each of three tables.
+type Wrong = (Option<usize>, Option<usize>, Option<usize>);
+
+// The first rows that are answered otherwise: of the last variables and of more where the chain is held, and where also some is true.
+fn wrong_in_turn<S: Solver>(solver: &mut S, more: &[Row]) -> Result<Wrong, NoCapacity> {
+    add_chain(solver)?;
+    let last = first_wrong(solver, &LAST_ROWS);
+    let first = first_wrong(solver, more);
+    add_some(solver)?;
+    Ok((last, first, first_wrong(solver, &SOME_ROWS)))
+}
+
+// The first row that is answered otherwise where all are held that fit, how much that is, and whether not even the empty clause fits.
+fn full<S: Solver>(solver: &mut S) -> Result<(Option<usize>, (usize, usize), bool), NoCapacity> {
+    solver.add(&[255, 0])?;
+    solver.add(&[255, 1])?;
+    let wrong = first_wrong(solver, &NONE_ROWS);
+    Ok((wrong, held(solver), solver.add(&[]).is_err()))
+}
+
 #[test]
 fn counting_counts(rt: HostRuntime) -> Result<(), Fail> {
     let mut solver = Counting::new(rt.alloc(), CAPACITY)?;
-    assert_eq!(rt; add_chain(&mut solver), Ok(()));
-    assert_eq!(rt; first_wrong(&mut solver, &LAST_ROWS), None);
-    assert_eq!(rt; add_some(&mut solver), Ok(()));
-    assert_eq!(rt; first_wrong(&mut solver, &SOME_ROWS), None);
+    assert_eq!(rt; wrong_in_turn(&mut solver, &[]), Ok((None, None, None)));
     Ok(())
 }
 
 #[test]
 fn propagating_searches(rt: HostRuntime) -> Result<(), Fail> {
     let mut solver = Propagating::new(rt.alloc(), CAPACITY)?;
-    assert_eq!(rt; add_chain(&mut solver), Ok(()));
-    assert_eq!(rt; first_wrong(&mut solver, &LAST_ROWS), None);
-    assert_eq!(rt; first_wrong(&mut solver, &FIRST_ROWS), None);
-    assert_eq!(rt; add_some(&mut solver), Ok(()));
-    assert_eq!(rt; first_wrong(&mut solver, &SOME_ROWS), None);
-    assert_eq!(rt; solver.add(&[255, 0]), Ok(()));
-    assert_eq!(rt; solver.add(&[255, 1]), Ok(()));
-    assert_eq!(rt; first_wrong(&mut solver, &NONE_ROWS), None);
-    assert_eq!(rt; (solver.clauses_held(), solver.literals_held()), (130, 386));
-    assert_eq!(rt; solver.add(&[]), Err(NoCapacity));
+    let said = (wrong_in_turn(&mut solver, &FIRST_ROWS), full(&mut solver));
+    assert_eq!(rt;
+        said,
+        (Ok((None, None, None)), Ok((None, (130, 386), true)))
+    );
     Ok(())
 }

@@ -1,10 +1,11 @@
 // What a turn and a taking refuse, alone and several at once: which comes first.
-use crate::samples::{ACCEPTED, ANY_START, OFF_START, OPEN, SWAP, Said, TWO};
-use crate::works::{Call, ROOM, blank_book, says};
+use crate::works::{Call, DECIDED, ROOM, SIZE, blank_book, says};
 use books::Entry;
-use counting::Counting;
+use counting::Counter;
 use histories::Verdict;
-use propagating::Propagating;
+use keeping::{Engine, Keeping};
+use samples::{ACCEPTED, ANY_START, NO_ROOM, OFF_START, OPEN, SWAP, Said, TWO};
+use search::Search;
 use solver::{Capacity, Solver};
 use std::alloc::Global;
 use std::test::Fail;
@@ -14,13 +15,8 @@ use work::{Work, open};
 // little room, the call, and what is said. The work has four places.
 type Row = (bool, usize, bool, bool, Call, Said);
 
-const DECIDED: Said = Err((3, 41, 0));
-
-const SIZE: Said = Err((3, 42, 0));
-
+// The used entry is against its rule.
 const RULES: Said = Err((3, 44, 0));
-
-const NO_ROOM: Said = Err((3, 45, 0));
 
 // Lists with a fault: past the end, a relay too high, a relay again.
 const CUT: Call = Call::Take(&[1, 3, 9]);
@@ -126,22 +122,16 @@ fn refuses<S: Solver>(
 }
 
 // The same, from opening to closing.
-fn opened_refuses<S: Solver>(heap: Global, solver: &mut S, small: &mut S, row: &Row) -> bool {
-    let Ok(mut work) = open(heap, &TWO, solver, 4) else {
-        return false;
-    };
-    let right = refuses(heap, solver, small, &mut work, row) == Some(true);
+fn opened_refuses<S: Solver>(
+    heap: Global,
+    solver: &mut S,
+    small: &mut S,
+    row: &Row,
+) -> Option<bool> {
+    let mut work = open(heap, &TWO, solver, 4).ok()?;
+    let right = refuses(heap, solver, small, &mut work, row);
     work.close().put_away();
     right
-}
-
-fn first_wrong<S: Solver>(heap: Global, solver: &mut S, small: &mut S) -> Option<usize> {
-    for (number, row) in ROWS.iter().enumerate() {
-        if !opened_refuses(heap, solver, small, row) {
-            return Some(number);
-        }
-    }
-    None
 }
 
 // Cases, how many turns are accepted, and the verdict then. Two calls more are refused.
@@ -156,14 +146,10 @@ const VERDICT_ROWS: [Deciding; 5] = [
 ];
 
 // Whether the work that was opened comes to the verdict, and then refuses.
-fn decides<S: Solver>(heap: Global, solver: &mut S, row: &Deciding) -> bool {
+fn decides<S: Solver>(heap: Global, solver: &mut S, row: &Deciding) -> Option<bool> {
     let (bytes, turns, verdict) = *row;
-    let Ok(mut book) = blank_book(heap, 4) else {
-        return false;
-    };
-    let Ok(mut work) = open(heap, bytes, solver, 4) else {
-        return false;
-    };
+    let mut book = blank_book(heap, 4).ok()?;
+    let mut work = open(heap, bytes, solver, 4).ok()?;
     let book = book.as_mut_slice();
     let mut turned = true;
     for _ in 0..turns {
@@ -176,39 +162,36 @@ fn decides<S: Solver>(heap: Global, solver: &mut S, row: &Deciding) -> bool {
         && says(heap, &mut work, solver, book, Call::Turn, DECIDED)
         && says(heap, &mut work, solver, book, TAKE, DECIDED);
     work.close().put_away();
-    right
+    Some(right)
 }
 
-// The first row that does otherwise.
-fn first_undecided<S: Solver>(heap: Global, solver: &mut S) -> Option<usize> {
-    for (number, row) in VERDICT_ROWS.iter().enumerate() {
-        if !decides(heap, solver, row) {
-            return Some(number);
-        }
-    }
-    None
+// The first row of each table that says otherwise, where the solver with too little room has this.
+fn first_wrong<E: Engine>(
+    heap: Global,
+    few: Capacity,
+) -> Result<(Option<usize>, Option<usize>), Fail> {
+    let mut solver = Keeping::<E>::new(heap, ROOM)?;
+    let mut small = Keeping::<E>::new(heap, few)?;
+    let saying = ROWS.iter().position(|row| opened_refuses(heap, &mut solver, &mut small, row)
+        != Some(true));
+    let deciding = VERDICT_ROWS
+        .iter()
+        .position(|row| decides(heap, &mut solver, row) != Some(true));
+    Ok((saying, deciding))
 }
 
 #[test]
 fn counting_refuses(rt: HostRuntime) -> Result<(), Fail> {
     let heap = rt.alloc();
-    let mut solver = Counting::new(heap, ROOM)?;
-    let mut few = Counting::new(heap, FEW_CLAUSES)?;
-    assert_eq!(rt; first_wrong(heap, &mut solver, &mut few), None);
-    let mut few = Counting::new(heap, FEW_LITERALS)?;
-    assert_eq!(rt; first_wrong(heap, &mut solver, &mut few), None);
-    assert_eq!(rt; first_undecided(heap, &mut solver), None);
+    assert_eq!(rt; first_wrong::<Counter>(heap, FEW_CLAUSES)?, (None, None));
+    assert_eq!(rt; first_wrong::<Counter>(heap, FEW_LITERALS)?, (None, None));
     Ok(())
 }
 
 #[test]
 fn propagating_refuses(rt: HostRuntime) -> Result<(), Fail> {
     let heap = rt.alloc();
-    let mut solver = Propagating::new(heap, ROOM)?;
-    let mut few = Propagating::new(heap, FEW_CLAUSES)?;
-    assert_eq!(rt; first_wrong(heap, &mut solver, &mut few), None);
-    let mut few = Propagating::new(heap, FEW_LITERALS)?;
-    assert_eq!(rt; first_wrong(heap, &mut solver, &mut few), None);
-    assert_eq!(rt; first_undecided(heap, &mut solver), None);
+    assert_eq!(rt; first_wrong::<Search>(heap, FEW_CLAUSES)?, (None, None));
+    assert_eq!(rt; first_wrong::<Search>(heap, FEW_LITERALS)?, (None, None));
     Ok(())
 }

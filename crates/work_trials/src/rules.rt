@@ -1,10 +1,11 @@
 // The rules of used entries, each broken in turn. Four entries were stored by a taking, and are then written over.
-use crate::samples::{ACCEPTED, SWAP, Said, TWO, WIDE};
 use crate::works::{Call, ROOM, Written, blank_book, entry_of, says, write_entries};
 use books::{Entry, Kind};
-use counting::Counting;
+use counting::Counter;
 use faults::WorkFault;
-use propagating::Propagating;
+use keeping::{Engine, Keeping};
+use samples::{ACCEPTED, SWAP, Said, TWO, WIDE};
+use search::Search;
 use solver::Solver;
 use std::alloc::Global;
 use std::test::Fail;
@@ -211,7 +212,7 @@ fn told<S: Solver>(
 }
 
 // The first row that is told otherwise, of one work on the case that has taken the four candidates.
-fn first_wrong<S: Solver>(
+fn first_row<S: Solver>(
     heap: Global,
     solver: &mut S,
     bytes: &[u8],
@@ -220,13 +221,11 @@ fn first_wrong<S: Solver>(
 ) -> Result<Option<usize>, Fail> {
     let mut book = blank_book(heap, 5)?;
     let mut work = open(heap, bytes, solver, 5).map_err(|_| Fail::new("not opened"))?;
-    let taken = work.take(solver, book.as_mut_slice(), four).is_ok() && work.look().used == 4;
-    let mut wrong = None;
-    for (number, row) in rows.iter().enumerate() {
-        if wrong.is_none() && !(taken && told(heap, &mut work, solver, book.as_mut_slice(), row)) {
-            wrong = Some(number);
-        }
-    }
+    let book = book.as_mut_slice();
+    let taken = work.take(solver, book, four).is_ok() && work.look().used == 4;
+    let wrong = rows
+        .iter()
+        .position(|row| !(taken && told(heap, &mut work, solver, book, row)));
     work.close().put_away();
     Ok(wrong)
 }
@@ -236,40 +235,32 @@ const FOUR: &[u8] = &[1, 1, 1, 3, 1, 1, 1, 3];
 
 const WIDE_FOUR: &[u8] = &[1, 63, 1, 63, 1, 63, 1, 63];
 
+// What the tables are for: the case and the four candidates.
+const TABLES: [(&[u8], &[u8], &[Row]); 3] = [
+    (&TWO, FOUR, &TWO_ROWS),
+    (&SWAP, FOUR, &SWAP_ROWS),
+    (WIDE, WIDE_FOUR, &WIDE_ROWS),
+];
+
+// The first table of which a row is told otherwise, and that row.
+fn first_wrong<E: Engine>(heap: Global) -> Result<Option<(usize, usize)>, Fail> {
+    let mut solver = Keeping::<E>::new(heap, ROOM)?;
+    for (table, (bytes, four, rows)) in TABLES.iter().enumerate() {
+        if let Some(row) = first_row(heap, &mut solver, bytes, four, rows)? {
+            return Ok(Some((table, row)));
+        }
+    }
+    Ok(None)
+}
+
 #[test]
 fn counting_tells(rt: HostRuntime) -> Result<(), Fail> {
-    let heap = rt.alloc();
-    let mut solver = Counting::new(heap, ROOM)?;
-    assert_eq!(rt;
-        first_wrong(heap, &mut solver, &TWO, FOUR, &TWO_ROWS)?,
-        None
-    );
-    assert_eq!(rt;
-        first_wrong(heap, &mut solver, &SWAP, FOUR, &SWAP_ROWS)?,
-        None
-    );
-    assert_eq!(rt;
-        first_wrong(heap, &mut solver, WIDE, WIDE_FOUR, &WIDE_ROWS)?,
-        None
-    );
+    assert_eq!(rt; first_wrong::<Counter>(rt.alloc())?, None);
     Ok(())
 }
 
 #[test]
 fn propagating_tells(rt: HostRuntime) -> Result<(), Fail> {
-    let heap = rt.alloc();
-    let mut solver = Propagating::new(heap, ROOM)?;
-    assert_eq!(rt;
-        first_wrong(heap, &mut solver, &TWO, FOUR, &TWO_ROWS)?,
-        None
-    );
-    assert_eq!(rt;
-        first_wrong(heap, &mut solver, &SWAP, FOUR, &SWAP_ROWS)?,
-        None
-    );
-    assert_eq!(rt;
-        first_wrong(heap, &mut solver, WIDE, WIDE_FOUR, &WIDE_ROWS)?,
-        None
-    );
+    assert_eq!(rt; first_wrong::<Search>(rt.alloc())?, None);
     Ok(())
 }

@@ -1,16 +1,4 @@
-// The cases that the tables change or descend over, and what reading says of bytes.
-use cases::Case;
-use faults::Fault;
-use std::alloc::Global;
-
-// Layer, number and place of a refusal: a tuple, since a struct in each row would hide the numbers.
-pub type Refused = (u32, u32, usize);
-
-// Nothing where the bytes are accepted.
-pub type Said = Result<(), Refused>;
-
-pub const ACCEPTED: Said = Ok(());
-
+// The cases that the tables change, descend over or judge.
 // Two relays and no input. Start clauses at 18 and 20, step clauses at 22, 25, 28 and 31, the safety clause at 34.
 pub const TWO: [u8; 36] = [
     2, 0, 0, 0, 2, 0, 4, 0, 1, 0, 18, 0, 22, 0, 34, 0, 36, 0, //
@@ -65,21 +53,8 @@ pub const WIDE: &[u8] = &[
     1, 1,
 ];
 
-// Writes the values over the bytes from the index on.
-pub fn put(bytes: &mut [u8], at: usize, values: &[u8]) {
-    for (byte, value) in bytes.iter_mut().skip(at).zip(values) {
-        *byte = *value;
-    }
-}
+// No clause at all, over as many relays as there may be.
+pub const MOST_RELAYS: &[u8] = &[32, 0, 0, 0, 0, 0, 0, 0, 0, 0, 18, 0, 18, 0, 18, 0, 18, 0];
 
-// What reading says of the bytes.
-pub fn said(heap: Global, bytes: &[u8]) -> Said {
-    Case::read(heap, bytes)
-        .map(|_case| ())
-        .map_err(|fault| refused(&fault))
-}
-
-// What a fault tells of itself.
-pub fn refused(fault: &impl Fault) -> Refused {
-    (fault.layer(), fault.number(), fault.place())
-}
+// The same over one relay too many.
+pub const TOO_MANY_RELAYS: &[u8] = &[33, 0, 0, 0, 0, 0, 0, 0, 0, 0, 18, 0, 18, 0, 18, 0, 18, 0];

@@ -1,11 +1,11 @@
 // Takings: what they say, what they store, and that a turn goes on from there.
-use crate::candidate_moves::off_candidates;
-use crate::samples::{ACCEPTED, SWAP, Said, TWO};
-use crate::works::{Call, ROOM, Written, begins_with, blank_book, held, said, says};
+use crate::works::{Call, NO_PLACE, ROOM, Written, begins_with, blank_book, says};
 use books::{Entry, Kind};
-use counting::Counting;
+use counting::Counter;
 use histories::Verdict;
-use propagating::Propagating;
+use keeping::{Engine, Keeping};
+use samples::{ACCEPTED, SWAP, Said, TWO, held, off_candidates, said};
+use search::Search;
 use solver::Solver;
 use std::alloc::Global;
 use std::test::Fail;
@@ -24,8 +24,6 @@ type Row = (
     Verdict,
     (usize, usize),
 );
-
-const NO_PLACE: Said = Err((3, 43, 0));
 
 const OFF_0: Written = (Kind::Taken, 1, 0, 0);
 
@@ -235,16 +233,12 @@ fn goes_on<S: Solver>(
 }
 
 // The same, from opening to closing.
-fn takes<S: Solver>(heap: Global, solver: &mut S, row: &Row) -> bool {
-    let Ok(mut book) = blank_book(heap, row.1) else {
-        return false;
-    };
-    let Ok(mut work) = open(heap, row.0, solver, row.1) else {
-        return false;
-    };
+fn takes<S: Solver>(heap: Global, solver: &mut S, row: &Row) -> Option<bool> {
+    let mut book = blank_book(heap, row.1).ok()?;
+    let mut work = open(heap, row.0, solver, row.1).ok()?;
     let right = goes_on(heap, &mut work, solver, book.as_mut_slice(), row);
     work.close().put_away();
-    right
+    Some(right)
 }
 
 // How many candidates that relay 0 or relay 1 is off, in turn, how many places, what is said, and how many are used then; and what
@@ -275,35 +269,34 @@ fn takes_many<S: Solver>(heap: Global, solver: &mut S, row: &ManyRow) -> Option<
     Some(takes && turns && decides)
 }
 
-// The first row of each table that goes otherwise.
-fn first_wrong<S: Solver>(heap: Global, solver: &mut S) -> (Option<usize>, Option<usize>) {
-    let mut wrong = None;
+// The first row that goes otherwise.
+fn first_few<S: Solver>(heap: Global, solver: &mut S) -> Option<usize> {
     for (number, row) in ROWS.iter().enumerate() {
-        if wrong.is_none() && !takes(heap, solver, row) {
-            wrong = Some(number);
+        if takes(heap, solver, row) != Some(true) {
+            return Some(number);
         }
     }
-    let mut many = None;
-    for (number, row) in MANY_ROWS.iter().enumerate() {
-        if many.is_none() && takes_many(heap, solver, row) != Some(true) {
-            many = Some(number);
-        }
-    }
-    (wrong, many)
+    None
+}
+
+// The first row of each table that goes otherwise.
+fn first_wrong<E: Engine>(heap: Global) -> Result<(Option<usize>, Option<usize>), Fail> {
+    let mut solver = Keeping::<E>::new(heap, ROOM)?;
+    let few = first_few(heap, &mut solver);
+    let many = MANY_ROWS
+        .iter()
+        .position(|row| takes_many(heap, &mut solver, row) != Some(true));
+    Ok((few, many))
 }
 
 #[test]
 fn counting_takes(rt: HostRuntime) -> Result<(), Fail> {
-    let heap = rt.alloc();
-    let mut solver = Counting::new(heap, ROOM)?;
-    assert_eq!(rt; first_wrong(heap, &mut solver), (None, None));
+    assert_eq!(rt; first_wrong::<Counter>(rt.alloc())?, (None, None));
     Ok(())
 }
 
 #[test]
 fn propagating_takes(rt: HostRuntime) -> Result<(), Fail> {
-    let heap = rt.alloc();
-    let mut solver = Propagating::new(heap, ROOM)?;
-    assert_eq!(rt; first_wrong(heap, &mut solver), (None, None));
+    assert_eq!(rt; first_wrong::<Search>(rt.alloc())?, (None, None));
     Ok(())
 }

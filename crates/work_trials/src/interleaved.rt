@@ -1,12 +1,15 @@
 // Lists of calls, made alike twice: with one solver and a book that only they write, and with two solvers in turn, unused places
 // written over before each call, and calls with a book of another size in between.
-use crate::samples::{ACCEPTED, OPEN, SWAP, Said, TWO};
 use crate::seven::SEVEN;
-use crate::works::{Call, ROOM, Written, blank_book, entry_of, make, says};
+use crate::works::{
+    Call, DECIDED, NO_PLACE, ROOM, SIZE, Written, blank_book, entry_of, make, says,
+};
 use books::{Entry, Kind};
-use counting::Counting;
+use counting::Counter;
 use histories::{Look, Verdict};
-use propagating::Propagating;
+use keeping::{Engine, Keeping};
+use samples::{ACCEPTED, OPEN, SWAP, Said, TWO};
+use search::Search;
 use solver::Solver;
 use std::alloc::Global;
 use std::test::Fail;
@@ -20,10 +23,6 @@ type Row = (
     Verdict,
     usize,
 );
-
-const DECIDED: Said = Err((3, 41, 0));
-
-const NO_PLACE: Said = Err((3, 43, 0));
 
 // Of SEVEN: x0 differs from x1; y0 differs from y1, and x is on; and z and y are on.
 const FIRST_PAIR: Call = Call::Take(&[2, 0, 2, 2, 1, 3]);
@@ -164,7 +163,7 @@ fn plainly<S: Solver>(heap: Global, solver: &mut S, row: &Row) -> Option<Look> {
 // The refusal of a book of another size, which comes after that of a call after a verdict.
 fn wrong_size(work: &Work) -> Said {
     match work.look().verdict {
-        Verdict::Undecided => Err((3, 42, 0)),
+        Verdict::Undecided => SIZE,
         _ => DECIDED,
     }
 }
@@ -213,28 +212,25 @@ fn otherwise<S: Solver, T: Solver>(
 }
 
 // The first row that ends otherwise, with the second solver, or with either in turn.
-fn first_wrong<S: Solver, T: Solver>(heap: Global, solver: &mut S, other: &mut T) -> Option<usize> {
-    for (number, row) in ROWS.iter().enumerate() {
-        let expected = Some(Look {
-            verdict: row.3,
-            used: row.4,
-            places: row.1,
-        });
-        if plainly(heap, other, row) != expected
-            || otherwise(heap, solver, other, row) != expected
-        {
-            return Some(number);
-        }
-    }
-    None
+fn first_wrong<E: Engine, F: Engine>(heap: Global) -> Result<Option<usize>, Fail> {
+    let mut solver = Keeping::<E>::new(heap, ROOM)?;
+    let mut other = Keeping::<F>::new(heap, ROOM)?;
+    Ok(
+        ROWS.iter().position(|row| {
+            let expected = Some(Look {
+                verdict: row.3,
+                used: row.4,
+                places: row.1,
+            });
+            plainly(heap, &mut other, row) != expected
+                || otherwise(heap, &mut solver, &mut other, row) != expected
+        }),
+    )
 }
 
 #[test]
 fn calls_in_turn(rt: HostRuntime) -> Result<(), Fail> {
-    let heap = rt.alloc();
-    let mut counting = Counting::new(heap, ROOM)?;
-    let mut propagating = Propagating::new(heap, ROOM)?;
-    assert_eq!(rt; first_wrong(heap, &mut counting, &mut propagating), None);
-    assert_eq!(rt; first_wrong(heap, &mut propagating, &mut counting), None);
+    assert_eq!(rt; first_wrong::<Counter, Search>(rt.alloc())?, None);
+    assert_eq!(rt; first_wrong::<Search, Counter>(rt.alloc())?, None);
     Ok(())
 }

@@ -1,11 +1,14 @@
 // Cases that are judged at once: what judging gives, the entries that are used, and the run that is read out.
-use crate::samples::{ANY_START, OFF_START, OPEN, Refused, SWAP, TWO, WIDE, refused};
 use crate::works::{ROOM, Written, blank_book, entry_of};
 use books::{Entry, Kind};
-use counting::Counting;
+use counting::Counter;
 use faults::WorkFault;
 use histories::Verdict;
-use propagating::Propagating;
+use keeping::{Engine, Keeping};
+use samples::{
+    ANY_START, MOST_RELAYS, OFF_START, OPEN, Refused, SWAP, TOO_MANY_RELAYS, TWO, WIDE, refused,
+};
+use search::Search;
 use solver::Solver;
 use std::alloc::Global;
 use std::test::Fail;
@@ -31,12 +34,8 @@ const NO_START: &[u8] = &[
     0,
 ];
 
-// No clause at all, over so many relays.
+// No clause at all, over one relay.
 const ONE_RELAY: &[u8] = &[1, 0, 0, 0, 0, 0, 0, 0, 0, 0, 18, 0, 18, 0, 18, 0, 18, 0];
-
-const MOST_RELAYS: &[u8] = &[32, 0, 0, 0, 0, 0, 0, 0, 0, 0, 18, 0, 18, 0, 18, 0, 18, 0];
-
-const TOO_MANY_RELAYS: &[u8] = &[33, 0, 0, 0, 0, 0, 0, 0, 0, 0, 18, 0, 18, 0, 18, 0, 18, 0];
 
 // Relay 1 is off.
 const FOUND: &[Read] = &[(&[(Kind::Found, 2, 0, 0)], &[])];
@@ -160,29 +159,26 @@ fn gives<S: Solver>(heap: Global, solver: &mut S, row: &Row) -> bool {
     }
 }
 
-// The first row that is judged otherwise.
-fn first_wrong<S: Solver>(heap: Global, solver: &mut S, rows: &[Row]) -> Option<usize> {
+// The first of the rows that is judged otherwise.
+fn first_wrong<E: Engine>(heap: Global, rows: &[Row]) -> Result<Option<usize>, Fail> {
+    let mut solver = Keeping::<E>::new(heap, ROOM)?;
     for (number, row) in rows.iter().enumerate() {
-        if !gives(heap, solver, row) {
-            return Some(number);
+        if !gives(heap, &mut solver, row) {
+            return Ok(Some(number));
         }
     }
-    None
+    Ok(None)
 }
 
 #[test]
 fn counting_judges(rt: HostRuntime) -> Result<(), Fail> {
-    let heap = rt.alloc();
-    let mut solver = Counting::new(heap, ROOM)?;
-    assert_eq!(rt; first_wrong(heap, &mut solver, &ROWS), None);
+    assert_eq!(rt; first_wrong::<Counter>(rt.alloc(), &ROWS)?, None);
     Ok(())
 }
 
 #[test]
 fn propagating_judges(rt: HostRuntime) -> Result<(), Fail> {
-    let heap = rt.alloc();
-    let mut solver = Propagating::new(heap, ROOM)?;
-    assert_eq!(rt; first_wrong(heap, &mut solver, &ROWS), None);
-    assert_eq!(rt; first_wrong(heap, &mut solver, &WIDE_ROWS), None);
+    assert_eq!(rt; first_wrong::<Search>(rt.alloc(), &ROWS)?, None);
+    assert_eq!(rt; first_wrong::<Search>(rt.alloc(), &WIDE_ROWS)?, None);
     Ok(())
 }

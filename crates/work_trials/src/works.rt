@@ -1,8 +1,7 @@
 // What the tables of the work share: books, room for a small case, entries as tuples, and calls with what they say.
-use crate::samples::{Said, refused};
 use books::{Entry, Kind};
-use faults::WorkFault;
 use histories::Verdict;
+use samples::{Said, held, said};
 use solver::{Capacity, Solver};
 use std::alloc::{AllocError, Global};
 use work::Work;
@@ -13,9 +12,19 @@ pub const ROOM: Capacity = Capacity {
     literals: 20000,
 };
 
+// What a call says after a verdict.
+pub const DECIDED: Said = Err((3, 41, 0));
+
+// What a call says where the book has another number of places.
+pub const SIZE: Said = Err((3, 42, 0));
+
+// What a call says where no place is free.
+pub const NO_PLACE: Said = Err((3, 43, 0));
+
 // Kind, first, second and third of an entry.
 pub type Written = (Kind, u32, u32, u16);
 
+// The entry that a tuple stands for.
 pub fn entry_of(written: Written) -> Entry {
     let (kind, first, second, third) = written;
     Entry {
@@ -47,23 +56,16 @@ pub fn begins_with(book: &[Entry], entries: &[Written]) -> bool {
             .all(|(entry, written)| *entry == entry_of(*written))
 }
 
-// What is said of a call that answers nothing.
-pub fn said(answer: Result<(), WorkFault>) -> Said {
-    answer.map_err(|fault| refused(&fault))
-}
-
-// How many clauses and literals the solver holds.
-pub fn held<S: Solver>(solver: &S) -> (usize, usize) {
-    (solver.clauses_held(), solver.literals_held())
-}
-
 // A call on an open work.
 #[derive(Clone, Copy)]
 pub enum Call {
+    // A turn.
     Turn,
+    // A taking of these candidates.
     Take(&'static [u8]),
 }
 
+// What the call says.
 pub fn make<S: Solver>(work: &mut Work, solver: &mut S, book: &mut [Entry], asked: Call) -> Said {
     said(match asked {
         Call::Turn => work.turn(solver, book),

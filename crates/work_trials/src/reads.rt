@@ -1,10 +1,11 @@
 // What reading an entry and a state refuses, alone and several at once: which comes first.
-use crate::samples::{ANY_START, OPEN, Refused, SWAP, TWO, refused};
 use crate::works::{ROOM, Written, write_entries};
 use books::{Entry, Kind};
-use counting::Counting;
+use counting::Counter;
 use faults::WorkFault;
-use propagating::Propagating;
+use keeping::{Engine, Keeping};
+use samples::{ANY_START, OPEN, Refused, SWAP, TWO, said};
+use search::Search;
 use solver::Solver;
 use std::alloc::Global;
 use std::test::Fail;
@@ -148,9 +149,8 @@ const ROWS: [Row; 26] = [
 
 // What an entry that is read is.
 fn told(answer: Result<Entry, WorkFault>) -> Result<Written, Refused> {
-    answer
-        .map(|entry| (entry.kind, entry.first, entry.second, entry.third))
-        .map_err(|fault| refused(&fault))
+    let entry = said(answer)?;
+    Ok((entry.kind, entry.first, entry.second, entry.third))
 }
 
 // Whether the open work reads the entries, and the closed one those and the states.
@@ -159,8 +159,7 @@ fn reads_all(work: Work, book: &[Entry], readings: &[Reading]) -> bool {
         == *entry);
     let closed = work.close();
     let read = readings.iter().all(|(number, entry, state)| {
-        let said = closed.state(book, *number).map_err(|fault| refused(&fault));
-        told(closed.entry(book, *number)) == *entry && said == *state
+        told(closed.entry(book, *number)) == *entry && said(closed.state(book, *number)) == *state
     });
     closed.put_away();
     opened && read
@@ -181,27 +180,23 @@ fn reads<S: Solver>(heap: Global, solver: &mut S, row: &Row) -> Option<bool> {
     Some(turned && used && read)
 }
 
-fn first_wrong<S: Solver>(heap: Global, solver: &mut S) -> Option<usize> {
-    for (number, row) in ROWS.iter().enumerate() {
-        if reads(heap, solver, row) != Some(true) {
-            return Some(number);
-        }
-    }
-    None
+// The first row that is read otherwise.
+fn first_wrong<E: Engine>(heap: Global) -> Result<Option<usize>, Fail> {
+    let mut solver = Keeping::<E>::new(heap, ROOM)?;
+    Ok(
+        ROWS.iter()
+            .position(|row| reads(heap, &mut solver, row) != Some(true)),
+    )
 }
 
 #[test]
 fn counting_reads(rt: HostRuntime) -> Result<(), Fail> {
-    let heap = rt.alloc();
-    let mut solver = Counting::new(heap, ROOM)?;
-    assert_eq!(rt; first_wrong(heap, &mut solver), None);
+    assert_eq!(rt; first_wrong::<Counter>(rt.alloc())?, None);
     Ok(())
 }
 
 #[test]
 fn propagating_reads(rt: HostRuntime) -> Result<(), Fail> {
-    let heap = rt.alloc();
-    let mut solver = Propagating::new(heap, ROOM)?;
-    assert_eq!(rt; first_wrong(heap, &mut solver), None);
+    assert_eq!(rt; first_wrong::<Search>(rt.alloc())?, None);
     Ok(())
 }

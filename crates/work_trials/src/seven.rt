@@ -2,14 +2,14 @@
 // was, y0 and y1 where x was and they were not, y where y0 or y1 was, and z where x and y were. At the start x0 differs from
 // x1 and y0 from y1, and x, y and z are on. The safety clause is z.
 use crate::works::{ROOM, blank_book};
-use counting::Counting;
+use counting::Counter;
 use histories::Verdict;
-use propagating::Propagating;
-use solver::Solver;
+use keeping::{Engine, Keeping};
+use search::Search;
 use std::alloc::Global;
-use std::test::Fail;
 use work::{Judged, judge};
 
+// The bytes of the case.
 pub const SEVEN: [u8; 100] = [
     7, 0, 0, 0, 7, 0, 19, 0, 1, 0, 18, 0, 36, 0, 98, 0, 100, 0, //
     // start: x0 or x1, and not both; y0 or y1, and not both; x; y; z
@@ -30,32 +30,25 @@ pub const SEVEN: [u8; 100] = [
 ];
 
 // The verdict and how many places are used, of 128: as many as there are states, with which no turn is refused.
-fn judged<S: Solver>(heap: Global, solver: &mut S) -> Result<(Verdict, usize), Fail> {
-    let mut book = blank_book(heap, 128)?;
-    let Judged { closed, refused } = judge(heap, &SEVEN, solver, book.as_mut_slice()).map_err(
-        |_| Fail::new("not opened"),
-    )?;
+fn judged<E: Engine>(heap: Global) -> Option<(Verdict, usize)> {
+    let mut solver = Keeping::<E>::new(heap, ROOM).ok()?;
+    let mut book = blank_book(heap, 128).ok()?;
+    let Judged { closed, refused } = judge(heap, &SEVEN, &mut solver, book.as_mut_slice()).ok()?;
     let look = closed.look();
     closed.put_away();
     match refused {
-        Some(_fault) => Err(Fail::new("refused")),
-        None => Ok((look.verdict, look.used)),
+        Some(_fault) => None,
+        None => Some((look.verdict, look.used)),
     }
 }
 
 // Both find the same states, since both try false first.
 #[test]
-fn counting_holds(rt: HostRuntime) -> Result<(), Fail> {
-    let heap = rt.alloc();
-    let mut solver = Counting::new(heap, ROOM)?;
-    assert_eq!(rt; judged(heap, &mut solver)?, (Verdict::Holds, 15));
-    Ok(())
+fn counting_holds(rt: HostRuntime) {
+    assert_eq!(rt; judged::<Counter>(rt.alloc()), Some((Verdict::Holds, 15)));
 }
 
 #[test]
-fn propagating_holds(rt: HostRuntime) -> Result<(), Fail> {
-    let heap = rt.alloc();
-    let mut solver = Propagating::new(heap, ROOM)?;
-    assert_eq!(rt; judged(heap, &mut solver)?, (Verdict::Holds, 15));
-    Ok(())
+fn propagating_holds(rt: HostRuntime) {
+    assert_eq!(rt; judged::<Search>(rt.alloc()), Some((Verdict::Holds, 15)));
 }
