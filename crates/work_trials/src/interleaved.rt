@@ -31,7 +31,7 @@ const SECOND_PAIR: Call = Call::Take(&[2, 6, 8, 2, 7, 9, 1, 4]);
 
 const LAST: Call = Call::Take(&[1, 12, 1, 10]);
 
-const ROWS: [Row; 7] = [
+const ROWS: &[Row] = &[
     // relay 1 is off is taken after a turn has found it
     (
         &TWO,

@@ -57,7 +57,7 @@ const BROKEN: &[Read] = &[
     ),
 ];
 
-const ROWS: [Row; 17] = [
+const ROWS: &[Row] = &[
     (&TWO, 4, Ok((Verdict::Holds, 1, 4, None)), FOUND),
     (&TWO, 1, Ok((Verdict::Holds, 1, 1, None)), FOUND),
     (&TWO, 0, Ok((Verdict::Undecided, 0, 0, NO_PLACE)), NOTHING),
@@ -105,7 +105,7 @@ const ROWS: [Row; 17] = [
 const WIDE_FOUND: &[Read] = &[(&[(Kind::Found, 0x8000_0000, 0, 0)], &[])];
 
 // What the solver that goes through all valuations takes too long for.
-const WIDE_ROWS: [Row; 3] = [
+const WIDE_ROWS: &[Row] = &[
     (WIDE, 4, Ok((Verdict::Holds, 1, 4, None)), WIDE_FOUND),
     (WIDE, 1, Ok((Verdict::Holds, 1, 1, None)), WIDE_FOUND),
     (WIDE, 0, Ok((Verdict::Undecided, 0, 0, NO_PLACE)), NOTHING),
@@ -172,13 +172,13 @@ fn first_wrong<E: Engine>(heap: Global, rows: &[Row]) -> Result<Option<usize>, F
 
 #[test]
 fn counting_judges(rt: HostRuntime) -> Result<(), Fail> {
-    assert_eq!(rt; first_wrong::<Counter>(rt.alloc(), &ROWS)?, None);
+    assert_eq!(rt; first_wrong::<Counter>(rt.alloc(), ROWS)?, None);
     Ok(())
 }
 
 #[test]
 fn propagating_judges(rt: HostRuntime) -> Result<(), Fail> {
-    assert_eq!(rt; first_wrong::<Search>(rt.alloc(), &ROWS)?, None);
-    assert_eq!(rt; first_wrong::<Search>(rt.alloc(), &WIDE_ROWS)?, None);
+    assert_eq!(rt; first_wrong::<Search>(rt.alloc(), ROWS)?, None);
+    assert_eq!(rt; first_wrong::<Search>(rt.alloc(), WIDE_ROWS)?, None);
     Ok(())
 }

@@ -1,5 +1,6 @@
 // Works, run, as tables with values worked out by hand: cases judged, takings, what calls and readings refuse and in which order, the
-// rules of entries, the room that opening needs, and lists of calls.
+// rules of entries, the room that opening needs, and lists of calls. Tables stand behind references: as arrays, most of these were
+// built row by row in the proof of each function that names one.
 #![tactic(auto)]
 
 #[cfg(test)]

@@ -53,7 +53,7 @@ const SECOND_WRONG: &[Reading] = &[
     (7, Err((3, 44, 1)), Err((3, 44, 1))),
 ];
 
-const ROWS: [Row; 26] = [
+const ROWS: &[Row] = &[
     // broken by its last entry: the run is read along the targets
     (
         &OPEN,

@@ -27,7 +27,7 @@ const AGAIN: Call = Call::Take(&[2, 2, 3]);
 
 const TAKE: Call = Call::Take(&[1, 3]);
 
-const ROWS: [Row; 44] = [
+const ROWS: &[Row] = &[
     // a verdict was given
     (true, 4, false, false, Call::Turn, DECIDED),
     (true, 4, false, false, TAKE, DECIDED),
@@ -137,7 +137,7 @@ fn opened_refuses<S: Solver>(
 // Cases, how many turns are accepted, and the verdict then. Two calls more are refused.
 type Deciding = (&'static [u8], usize, Verdict);
 
-const VERDICT_ROWS: [Deciding; 5] = [
+const VERDICT_ROWS: &[Deciding] = &[
     (&TWO, 2, Verdict::Holds),
     (&SWAP, 1, Verdict::Holds),
     (&OPEN, 2, Verdict::BrokenByEntry),

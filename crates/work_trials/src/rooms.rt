@@ -15,7 +15,7 @@ type Row = (&'static [u8], usize, usize, usize, Said);
 // More places than there may be.
 const TOO_MANY: Said = Err((3, 32, 0));
 
-const ROWS: [Row; 21] = [
+const ROWS: &[Row] = &[
     // 7 clauses of 11 literals in the lists; places, one clause and 512 candidates, of 2 literals each
     (&TWO, 4, 524, 1045, ACCEPTED),
     (&TWO, 4, 523, 1045, NO_ROOM),

@@ -29,7 +29,7 @@ const OFF_0: Written = (Kind::Taken, 1, 0, 0);
 
 const OFF_1: Written = (Kind::Taken, 2, 0, 0);
 
-const ROWS: [Row; 21] = [
+const ROWS: &[Row] = &[
     // relay 0 is off, relay 1 is off, relay 0 is on, which is false at the start; in list order
     (
         &SWAP,
@@ -245,7 +245,7 @@ fn takes<S: Solver>(heap: Global, solver: &mut S, row: &Row) -> Option<bool> {
 // the solver holds after a turn.
 type ManyRow = (usize, usize, Said, usize, (usize, usize));
 
-const MANY_ROWS: [ManyRow; 7] = [
+const MANY_ROWS: &[ManyRow] = &[
     (511, 511, ACCEPTED, 511, (515, 519)),
     (512, 512, ACCEPTED, 512, (516, 520)),
     (512, 513, ACCEPTED, 512, (516, 520)),
