@@ -1,5 +1,6 @@
 -- Numbers below 2 ^ n by their bits: which lie below, two of them that differ, and the one with given bits. Assumes nothing.
 use Rattle.std.proofs.Common.{◌≡◌, ℕ, zero, suc, ◌+◌, ◌*◌, ◌/◌, ◌%◌, ◌^◌, ◌<◌, min, Bool, true, false, cond, not, T, sym, refl, ap, ◌∙◌, inl, inr, pow-suc, arith, pow_pos, pow_mono, nat_eq}
+use Rattle.std.proofs.Math.Bool.{not-eq-not}
 use Rattle.std.proofs.lemmas.Bool.{true≢false, cases_lt, cases_eq, eq-eqb, ne_eqb}
 use lib.Bits.{bit_and, and_step}
 use Rattle.system.specs.Literals.{bit}
@@ -32,15 +33,11 @@ bits_differ (suc n) s u a b h =
       | inr d ↦ (0, omega arith, parity (s / 1 % 2) (u / 1 % 2) (omega arith) (omega arith) (λ q. d (omega arith)))
     ]
 
-pub clash : (b : Bool) → b ≡ not b → ⊥
-clash true e = true≢false e
-clash false e = true≢false (sym e)
-
 pub same_bits : (n s u : ℕ) → s < 2 ^ n → u < 2 ^ n → ((i : ℕ) → i < n → bit s i ≡ bit u i) → s ≡ u
 same_bits n s u a b h =
     elim (cases_eq s u) [
       | inl e ↦ e
-      | inr d ↦ absurd (let r = bits_differ n s u a b d in clash (bit u r.0) (sym (h r.0 r.1) ∙ r.2))
+      | inr d ↦ absurd (let r = bits_differ n s u a b d in not-eq-not.1 refl (sym (h r.0 r.1) ∙ r.2))
     ]
 
 pub number_bits : (n x : ℕ) (p : ℕ → Bool) → x < 2 ^ n → ((i : ℕ) → i < n → bit x i ≡ p i) → x ≡ number n p

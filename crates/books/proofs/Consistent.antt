@@ -1,7 +1,7 @@
 -- A state meets the clauses by which a solver holds a book exactly where it is consistent with the book. Assumes nothing.
 use Rattle.std.proofs.Common.{◌≡◌, ℕ, ◌/◌, ◌^◌, ◌<◌, ◌↔◌, Bool, true, false, not, ◌&&◌, T, List, [], ◌∷◌, ◌++◌, sym, refl, ap, ap₂, ◌∙◌, subst, inl, inr, arith, nat_eq, zero-add}
 use Rattle.std.proofs.Math.Dec.{T_not, not_T}
-use Rattle.std.proofs.Math.Bool.{and_assoc}
+use Rattle.std.proofs.Math.Bool.{and_assoc, not-eq-not}
 use Rattle.std.proofs.lemmas.Bool.{eq-eqb, eqb-true}
 use Rattle.std.specs.List.{AllByRecursion}
 use Rattle.system.specs.Literals.{Valuation, bit, variable_of, clause, clauses, Member}
@@ -15,7 +15,7 @@ use Rattle.books.specs.Books.{admitted, meets, rule_as, Ruled}
 use Rattle.books.specs.declared.entry.Entry.{Entry}
 use Rattle.books.specs.declared.entry.Kind.{Kind}
 use Rattle.books.specs.declared.entry.Kind.TheVariants.{Blank, Found, Subgoal, Taken}
-use Rattle.books.proofs.Binary.{bit_high, bits_differ, clash}
+use Rattle.books.proofs.Binary.{bit_high, bits_differ}
 use Rattle.books.proofs.Meanings.{spelled_from}
 use Rattle.books.proofs.Ruled.{member_rule, rule_low}
 
@@ -33,7 +33,7 @@ false_just_there n s u low below = tests_same _ _ differs same
     differs t =
         not_T _ (λ h.
         let r = spelled_true 0 (λ i. true) (λ i. not (bit u i)) (bit s) n t in
-        clash (bit u r.0) (ap (λ z. bit z r.0) (sym (eqb-true s u (T_true _ h))) ∙ subst (λ j. bit s j ≡ not (bit u r.0)) (zero-add r.0) r.3))
+        not-eq-not.1 refl (ap (λ z. bit z r.0) (sym (eqb-true s u (T_true _ h))) ∙ subst (λ j. bit s j ≡ not (bit u r.0)) (zero-add r.0) r.3))
 
     same : T (not (nat_eq s u)) → T (clause (bit s) (spelled 0 n (λ i. true) (λ i. not (bit u i))))
     same h =

@@ -47,12 +47,6 @@ admits_clause Found e s h t = t
 admits_clause Subgoal e s h t = absurd h
 admits_clause Taken e s h t = t
 
-pub admits_state : (k : Kind) (e : Entry) (s : ℕ) → T (is_subgoal k) → T (admits_as k e s) → s ≡ e.first → ⊥
-admits_state Blank e s h t q = h
-admits_state Found e s h t q = h
-admits_state Subgoal e s h t q = T_not _ t (T_of (eq-eqb s e.first q))
-admits_state Taken e s h t q = h
-
 pub admitted_all : (es : List Entry) (s : ℕ) → ((e : Entry) → Member e es → T (admits e s)) → T (admitted es s)
 admitted_all [] s h = tt
 admitted_all (e ∷ es) s h = and_i (admits e s) (admitted es s) (h e (inl refl)) (admitted_all es s (λ x m. h x (inr m)))

@@ -1,4 +1,4 @@
--- A walk along lists: what is left of a list, and one more held or asked. Assumes nothing.
+-- One more question asked, and what was asked of all. Assumes nothing.
 use Rattle.std.proofs.Common.{◌≡◌, ℕ, ◌+◌, ◌<◌, ◌≤◌, ◌⊎◌, List, [], ◌∷◌, length, get_or, drop, set, sym, ap, ◌∙◌, subst, subst₂, inl, inr, arith}
 use Rattle.std.proofs.lemmas.List.{length-drop, get_or-drop, drop-drop, get_or-set_same, get_or-set_other}
 use Rattle.std.proofs.lemmas.Bool.{cases_order}
@@ -8,17 +8,6 @@ use Rattle.exported.specs.declared.fault.AskFault.TheVariants.{NoMemory, NoCapac
 use Rattle.exported.specs.Codes.{code}
 use Rattle.exported.specs.Replies.{Told}
 use Rattle.exported.specs.declared.reply.Reply.{Reply}
-
--- the first of what is left of a list from n on
-pub left_first : (xs rest : List (List ℕ)) (d : List ℕ) (n : ℕ) → drop n xs ≡ d ∷ rest → get_or xs n [] ≡ d
-left_first xs rest d n e = ap (λ k. get_or xs k []) (let z : n ≡ n + 0 = omega arith in z) ∙ sym (get_or-drop n xs 0 []) ∙ ap (λ ys. get_or ys 0 []) e
-
-pub left_rest : (xs rest : List (List ℕ)) (d : List ℕ) (n : ℕ) → drop n xs ≡ d ∷ rest → rest ≡ drop (n + 1) xs
-left_rest xs rest d n e = sym (ap (drop 1) e) ∙ drop-drop 1 n xs
-
--- nothing is left of a list from its end on
-pub left_none : (xs : List (List ℕ)) (n : ℕ) → drop n xs ≡ [] → length xs ≤ n
-left_none xs n e = let l = length-drop n xs in let z = ap length e in omega arith
 
 -- one more reply
 pub told_more : (held questions : List (List ℕ)) (replies : List Reply) (n : ℕ) (r : Reply) → n < length replies

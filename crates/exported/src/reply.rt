@@ -1,15 +1,19 @@
-// The answer to one question: `yes` is 1 or 0, and `low` and `high` are the model of a yes, and 0 after a no. It stays a flag
-// beside numbers, and so do the numbers of the calls, since C reads them.
+// The reply to a question, as C reads it.
 ghost use Rattle.std.specs.Prelude.{◌≡◌};
 ghost use Rattle.exported.specs.Replies.{reply_of};
 
 use solver::Answer;
 
+// The answer to one question as numbers. It stays a flag beside numbers, and so do the numbers of the calls, since C reads
+// them.
 #[derive(Clone, Copy)]
 #[repr(C)]
 pub struct Reply {
+    // 1 for a yes, 0 for a no.
     pub yes: u64,
+    // The values of variables 0 to 63 in the model of a yes; 0 after a no.
     pub low: u64,
+    // The values of variables 64 to 127 in it; 0 after a no.
     pub high: u64,
 }
 

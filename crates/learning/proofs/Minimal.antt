@@ -2,6 +2,7 @@
 use Rattle.std.proofs.Common.{◌≡◌, ℕ, zero, suc, ◌/◌, ◌%◌, ◌<◌, ◌≤◌, Bool, true, false, cond, not, T, List, [], ◌∷◌, length, get_or, Some, None, Option, sym, refl, ap, ◌∙◌, subst, arith, nat_eq}
 use mathlib.Core.Bool.{beq}
 use Rattle.std.proofs.Math.Dec.{T_not, not_T}
+use Rattle.std.proofs.Math.Bool.{not-eq-not}
 use Rattle.std.proofs.lemmas.Bool.Decides.{nat_tests}
 use Rattle.system.specs.Literals.{bit, variable_of, clause, Member}
 use Rattle.system.specs.Spelling.{literal_of}
@@ -69,10 +70,7 @@ module _ (c : System) (few : c.n ≤ 32) (es : List Entry) (s : ℕ) where
   of_marks M = false_at c.n s M
 
   of_marks_false : (M : List ℕ) → T (not (clause (bit s) (of_marks M)))
-  of_marks_false M = not_T _ (λ t. let r = false_at_some c.n s (bit s) M t in clash (bit s r.0) r.3)
-    where
-      clash : (b : Bool) → b ≡ not b → ⊥
-      clash b e = grind arith
+  of_marks_false M = not_T _ (λ t. let r = false_at_some c.n s (bit s) M t in not-eq-not.1 refl r.3)
 
   of_marks_over : (M : List ℕ) → OverRelays c.n (of_marks M)
   of_marks_over M = spelled_over c.n c.n (marked M) (λ i. not (bit s i)) (omega arith)

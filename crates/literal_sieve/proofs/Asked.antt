@@ -1,6 +1,7 @@
 -- What an answer says of marks, where their clause is held too and its literals are assumed false after a step. Assumes nothing.
 use Rattle.std.proofs.Common.{◌≡◌, ℕ, ◌+◌, ◌%◌, ◌^◌, ◌<◌, ◌≤◌, Bool, true, false, cond, not, T, List, [], ◌∷◌, ◌++◌, length, get_or, None, Ok, Option, sym, refl, ap, subst, subst₂, ◌∙◌, inl, inr, arith}
 use mathlib.Core.Bool.{beq}
+use Rattle.std.proofs.Math.Bool.{not-eq-not}
 use Rattle.std.proofs.lemmas.Bool.{true≢false, lt-ltb, cond-true}
 use Rattle.std.proofs.lemmas.Bool.Decides.{nat_tests}
 use Rattle.system.specs.Literals.{Valuation, bit, clause}
@@ -27,12 +28,6 @@ use Rattle.literal_sieve.specs.Laws.{false_at_some, some_false_at}
 use Rattle.literal_sieve.proofs.Written.{spelled_negated, spelled_plain, spelled_each, each_spelled}
 
 -- two values that differ, and two that agree
-clash : (b : Bool) → b ≡ not b → ⊥
-clash b e = grind arith
-
-same_value : (a b : Bool) → (a ≡ not b → ⊥) → a ≡ b
-same_value a b n = grind arith
-
 beq_clash : (a b : Bool) → a ≡ not b → beq a b ≡ false
 beq_clash a b e = grind arith
 
@@ -54,7 +49,7 @@ module _ (s : AtState) (few : s.n ≤ 32) (held : List (List ℕ)) (M : List ℕ
     where
       unmet : T (not (clause (after a) (false_at s.n s.state M))) → (i : ℕ) → i < s.n → T (marked M i) → a (32 + i) ≡ bit s.state i
       unmet f i l k =
-          same_value (a (32 + i)) (bit s.state i)
+          not-eq-not.0
           (λ e. true≢false (sym (T_true _ (some_false_at s.n s.state (after a) M i l k e)) ∙ T_false _ f))
 
   -- a yes: the marks left are of the relays that are before the step as in the state
@@ -72,14 +67,14 @@ module _ (s : AtState) (few : s.n ≤ 32) (held : List (List ℕ)) (M : List ℕ
     closed_kept : (N : List ℕ) → ClauseClosed s held N → Within N M → (i : ℕ) → T (marked N i) → T (beq (bit p i) (bit s.state i))
     closed_kept N shut w i t =
         let l : i < s.n = (let k = marked_below M i (w i t) in omega (arith, m.0)) in
-        T_of (beq_agree _ _ (same_value (bit p i) (bit s.state i) (λ q. broken l (sym (is i (omega arith)) ∙ q))))
+        T_of (beq_agree _ _ (not-eq-not.0 (λ q. broken l (sym (is i (omega arith)) ∙ q))))
       where
         broken : i < s.n → a i ≡ not (bit s.state i) → ⊥
         broken l q =
             let h = clauses_parts a held (false_at s.n s.state M ∷ []) y.0 in
             let c = shut a h.0 (clause_alone a (false_at s.n s.state N) (some_false_at s.n s.state a N i l t q)) in
             let r = false_at_some s.n s.state (after a) N (alone_clause (after a) (false_at s.n s.state N) c) in
-            clash (bit s.state r.0) (sym (spelled_each 32 (marked M) (bit s.state) a s.n y.1 r.0 r.1 (w r.0 r.2)) ∙ r.3)
+            not-eq-not.1 refl (sym (spelled_each 32 (marked M) (bit s.state) a s.n y.1 r.0 r.1 (w r.0 r.2)) ∙ r.3)
 
     yes_fewer : Reduced s.n (ClauseClosed s held) M out
     yes_fewer = reduced s.n (ClauseClosed s held) M out m long (λ i. beq (bit p i) (bit s.state i)) (λ i h. at i (omega arith)) closed_kept one_true

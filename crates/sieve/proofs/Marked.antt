@@ -63,16 +63,14 @@ module _ (places : ℕ) (M N : List ℕ) (m : Marks places M) (n : Marks places 
       let e = sym (at i) ∙ marked_is (union M N) i t in
       elim (cases_eq (get_or M i 0) 1) [ inl h ↦ inl (is_marked M i h) | inr h ↦ inr (is_marked N i (omega arith)) ]
 
+  one_marked : (i : ℕ) → i < places → T (marked M i) ⊎ T (marked N i) → T (marked (union M N) i)
+  one_marked i h t =
+      let x = small places M m i h in
+      let y = small places N n i h in
+      is_marked (union M N) i (at i ∙ elim t [ inl a ↦ (let e = marked_is M i a in omega arith) | inr b ↦ (let e = marked_is N i b in omega arith) ])
+
   pub union_left : Within M (union M N)
-  union_left i t =
-      let x = marked_is M i t in
-      let l = marked_below M i t in
-      let y = small places N n i (omega (arith, m.0)) in
-      is_marked (union M N) i (at i ∙ omega arith)
+  union_left i t = one_marked i (let l = marked_below M i t in omega (arith, m.0)) (inl t)
 
   pub union_right : Within N (union M N)
-  union_right i t =
-      let x = marked_is N i t in
-      let l = marked_below N i t in
-      let y = small places M m i (omega (arith, n.0)) in
-      is_marked (union M N) i (at i ∙ omega arith)
+  union_right i t = one_marked i (let l = marked_below N i t in omega (arith, n.0)) (inr t)

@@ -1,7 +1,8 @@
 use Rattle.std.proofs.Common.{ℕ, ◌<◌, List, length, sym, ◌∙◌, subst₂, arith}
 use Rattle.lists.specs.Lists.{clauses_of}
 use Rattle.solver.specs.Answers.{Answered}
-use Rattle.exported.proofs.Walks.{left_first, left_rest, left_none, told_more}
+use Rattle.lists.proofs.Left.{left_more, left_none}
+use Rattle.exported.proofs.Walks.{told_more}
 use Rattle.exported.proofs.asking.ask.Goals as goal
 
 pub returns-in_default : goal.returns-in_default
@@ -16,13 +17,13 @@ loop-reply-preserved g c =
     let rest = clauses_of c.next.new.self in
     let d : List ℕ = c.in-Some.assumed.now in
     let n = c.loop-reply.reply-index in
-    let left = sym c.loop-reply.invariant.0 ∙ c.in-Some.ensures.steps in
+    let left = left_more xs n d rest (sym c.loop-reply.invariant.0 ∙ c.in-Some.ensures.steps) in
     let h : n < length c.loop-reply.replies = omega (arith, c.loop-reply-test.true, c.loop-reply.auto.replies) in (
-      left_rest xs rest d n left,
+      left.2,
       c.query.ensures.held ∙ c.loop-reply.invariant.1,
       told_more (g.S.Solver.held c.args.solver.now) xs c.loop-reply.replies n c.from.result h c.loop-reply.invariant.2 (
         c.query.result,
-        subst₂ (λ held q. Answered held q c.query.result) c.loop-reply.invariant.1 (sym (left_first xs rest d n left)) c.query.ensures.answer,
+        subst₂ (λ held q. Answered held q c.query.result) c.loop-reply.invariant.1 left.1 c.query.ensures.answer,
         c.from.ensures,
       ),
     )
