@@ -1,12 +1,12 @@
 -- Lists of entries: places of members, which states they admit, their targets, and one list of entries after another. Assumes nothing.
 use Rattle.std.proofs.Common.{◌≡◌, ℕ, zero, suc, ◌+◌, ◌-◌, ◌<◌, ◌≤◌, Bool, true, false, cond, not, ◌&&◌, T, List, [], ◌∷◌, ◌++◌, length, get_or, take, sym, refl, ap, ◌∙◌, subst, inl, inr, arith, nat_eq, nat_lt, nat_le}
-use Rattle.std.proofs.Math.Dec.{T_not, not_T}
+use Rattle.std.proofs.Math.Dec.{not_T}
 use Rattle.std.proofs.Math.Seq.{take-append-add}
-use Rattle.std.proofs.lemmas.Bool.{cases_lt, lt-ltb, le-ltb, le-leb, eq-eqb, eqb-true}
+use Rattle.std.proofs.lemmas.Bool.{cases_lt, lt-ltb, le-ltb, le-leb, eqb-true}
 use Rattle.std.proofs.lemmas.List.{get_or_past, get_or_append_left, length-take-le, take_at}
 use Rattle.system.specs.Literals.{Valuation, bit, clause, clauses, Member}
 use Rattle.system.specs.Systems.{System}
-use Rattle.system.proofs.Truth.{T_of, T_true, cases_T, and_l, and_r, and_i}
+use Rattle.system.proofs.Truth.{T_true, cases_T, and_l, and_r, and_i}
 use Rattle.books.specs.Entries.{is_subgoal, is_clause, blank, clause_of, admits_as, admits}
 use Rattle.books.specs.Books.{admitted, meets, subgoal_at}
 use Rattle.books.specs.Targets.{aimed}

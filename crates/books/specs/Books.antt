@@ -1,5 +1,5 @@
 -- A book of used entries: which states are consistent with it, the rules that its entries keep, and what a solver holds of it.
-use Rattle.std.specs.Prelude.{◌≡◌, ℕ, suc, ◌+◌, ◌-◌, ◌*◌, ◌^◌, ◌≤◌, Bool, true, false, cond, ◌&&◌, List, [], ◌∷◌, length, None, Option, ◌==◌, nat_le, nat_lt, slice_index_or, bit_and}
+use Rattle.std.specs.Prelude.{◌≡◌, ℕ, suc, ◌+◌, ◌-◌, ◌*◌, ◌^◌, Bool, true, false, cond, ◌&&◌, List, [], ◌∷◌, length, None, Option, ◌==◌, nat_le, nat_lt, slice_index_or, bit_and}
 use Rattle.system.specs.Literals.{bit, clauses, size}
 use Rattle.system.specs.Systems.{System}
 use Rattle.system.specs.Preserving.{loaded}
@@ -73,10 +73,9 @@ enough capacity c places = spare (room_for c places) [] capacity
 abbrev pub room_fault : Capacity → System → ℕ → Option WorkFault
 room_fault capacity c places = or_else (unmet (nat_le places 8192) TooManyPlaces) (unmet (enough capacity c places) NoCapacity)
 
--- the entries of a book keep the rules, are no more than there may be, and a solver has room for the system and them
+-- the entries of a book keep the rules, and a solver has room for the system and them
 pub record Ready (c : System) (es : List Entry) (capacity : Capacity) : Type 0 where
   pub ruled : Ruled c es
-  pub few : length es ≤ 8192
   pub room : enough capacity c (length es) ≡ true
 
 -- and it holds them

@@ -20,6 +20,7 @@ fn add_if_marked<S: Solver>(solver: &mut S, candidate: &[u8], mark: u8)
     ensures capacity { S.Solver.capacity solver.new ≡ S.Solver.capacity solver.old }
 {
     if mark == 1 {
+        // fits, as is required
         let _ = solver.add(candidate);
     }
 }

@@ -1,1 +1,1 @@
-mod Opposites
+pub mod Opposites

@@ -1,7 +1,7 @@
 -- The opposites of a clause's literals, one after another. Assumes nothing.
-use Rattle.std.proofs.Common.{◌≡◌, ℕ, ◌+◌, ◌<◌, Bool, not, ◌&&◌, ◌||◌, List, [], ◌∷◌, ◌++◌, length, get_or, take, set, sym, ap, ◌∙◌, ap₂, arith}
+use Rattle.std.proofs.Common.{◌≡◌, ℕ, ◌+◌, ◌<◌, Bool, not, ◌&&◌, ◌||◌, List, [], ◌∷◌, ◌++◌, ◌≤◌, length, get_or, take, set, sym, ap, ◌∙◌, ap₂, subst, arith}
 use Rattle.std.proofs.Math.Bool.{and-true, and_assoc, or-false, or_assoc}
-use Rattle.std.proofs.lemmas.List.{length-set, take_more, take_more_set}
+use Rattle.std.proofs.lemmas.List.{length-set, take_all, take_more, take_more_set}
 use Rattle.system.specs.Literals.{Valuation, variable_of, literal, clause}
 use Rattle.system.specs.Systems.{OverRelays}
 use Rattle.system.proofs.Truth.{all_place}
@@ -40,3 +40,16 @@ denying_on moment c n out l w h few d = record { long = length-set out n l ∙ w
         ∙ ap₂ ◌&&◌ (w.denied over a) (d (all_place (λ k. variable_of k < 32) c 0 n over h) a)
         ∙ not_or (clause (at moment a) (take n c)) (literal (at moment a) (get_or c n 0))
         ∙ ap not (sym (ap (clause (at moment a)) (take_more c n 0 h) ∙ clause_more (at moment a) (take n c) (get_or c n 0)))
+
+-- all that count were denied
+pub denied_all : (moment : Moment) (d : List ℕ) (count i : ℕ) (out : List ℕ) → take count d ≡ take 32 d → i ≡ count → length (take count d) ≡ count → Denying moment (take count d) i out
+    → OverRelays 32 (take 32 d) → (a : Valuation) → literals a (take count out) ≡ not (clause (at moment a) (take 32 d))
+denied_all moment d count i out cut is long w over a =
+    ap (λ k. literals a (take k out)) (sym is)
+    ∙ w.denied (subst (OverRelays 32) (sym cut) over) a
+    ∙ ap (λ c. not (clause (at moment a) c)) (take_all i (take count d) (omega arith) ∙ cut)
+
+-- a clause of no more literals counts whole
+pub denied_whole : (moment : Moment) (d ls : List ℕ) → length d ≤ 32 → (OverRelays 32 (take 32 d) → (a : Valuation) → literals a ls ≡ not (clause (at moment a) (take 32 d)))
+    → OverRelays 32 d → (a : Valuation) → literals a ls ≡ not (clause (at moment a) d)
+denied_whole moment d ls short = subst (λ x. OverRelays 32 x → (a : Valuation) → literals a ls ≡ not (clause (at moment a) x)) (take_all 32 d short)

@@ -1,5 +1,5 @@
 // The literals that deny a clause.
-ghost use Rattle.std.specs.Prelude.{◌≡◌, ◌<◌, ◌≤◌, not, take, length};
+ghost use Rattle.std.specs.Prelude.{◌≡◌, ◌<◌, ◌≤◌, not, take};
 ghost use Rattle.system.specs.Literals.{Valuation, variable_of, literal, clause};
 ghost use Rattle.system.specs.Systems.{OverRelays};
 ghost use Rattle.solver.specs.Answers.{literals};
@@ -20,9 +20,9 @@ fn opposite(byte: u8, moment: Moment) -> u8
 }
 
 // Writes the literals that are all true at that moment exactly where the clause is false there, and says how many they are.
-// Of a clause of more than 32 literals only the first 32 are denied.
+// A clause counts as its first 32 literals.
 pub fn deny(denied: &[u8], moment: Moment, out: &mut [u8; 32]) -> usize
-    ensures denied { length denied.now ≤ 32 → OverRelays 32 denied.now → (a : Valuation) → literals a (take result out.new) ≡ not (clause (at moment a) denied.now) }
+    ensures denied { OverRelays 32 (take 32 denied.now) → (a : Valuation) → literals a (take result out.new) ≡ not (clause (at moment a) (take 32 denied.now)) }
     ensures bound { result ≤ 32 }
 {
     let count = denied.len().min(32);

@@ -21,7 +21,8 @@ use Rattle.books.specs.Entries.{held_clauses}
 use Rattle.books.specs.Books.{book_loaded, Ready}
 use Rattle.books.proofs.Rooms.{clause_room, loaded_room, start_room}
 use Rattle.books.proofs.Consistent.{held_over, consecution_meets}
-use Rattle.questions.specs.Questions.{Narrow, InitialAgainst}
+use Rattle.questions.specs.Questions.{InitialAgainst}
+use Rattle.questions.proofs.Whole.{Narrow}
 use Rattle.learning.specs.Learning.{LiteralClosed, Initiated, DescendedTo}
 
 -- what a solver holds where what was loaded fits

@@ -25,6 +25,7 @@ pub fn learn<S: Solver>(solver: &mut S, case: &Case, entries: &[Entry], state: u
     let sieve = LiteralSieve::new(case, state);
     let mut places = [1; 32];
     let marks = &mut places[..sieve.places()];
+    // refuses nothing: marks are of all places, and beside the book there is room for a clause
     let _ = descend(&sieve, solver, marks);
     if !is_initiated(solver, case, state, marks) {
         solver.wipe();
@@ -45,6 +46,7 @@ fn is_initiated<S: Solver>(solver: &mut S, case: &Case, state: u32, marks: &[u8]
 {
     let mut clause = [0; 32];
     let count = LiteralSieve::new(case, state).write_clause(marks, &mut clause);
+    // fits where there is the room
     let _ = load_start(solver, case);
     initial_against(solver, case, &clause[..count]).is_none()
 }
@@ -82,7 +84,7 @@ fn try_without<S: Solver>(
     let less = &mut places[..marks.len()];
     less.copy_from_slice(marks);
     less[relay] = 0;
-    // since the last test the solver has held the start clauses
+    // since the last test the solver has held the start clauses; neither call refuses where there is room for the book
     let _ = load_book(solver, case, entries);
     let _ = descend(&LiteralSieve::new(case, state), solver, less);
     if is_initiated(solver, case, state, less) {

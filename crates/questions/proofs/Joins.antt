@@ -1,5 +1,5 @@
 -- Valuations that make true what a solver holds of a book are the steps from the states that are consistent with it. Assumes nothing.
-use Rattle.std.proofs.Common.{◌≡◌, ℕ, ◌/◌, ◌%◌, ◌^◌, ◌<◌, ◌≤◌, not, T, List, ◌++◌, length, Some, None, sym, ap, ◌∙◌, subst, subst₂, inl, inr, arith}
+use Rattle.std.proofs.Common.{◌≡◌, ℕ, ◌/◌, ◌%◌, ◌^◌, ◌<◌, ◌≤◌, not, T, List, ◌++◌, Some, None, sym, ap, ◌∙◌, subst, subst₂, inl, inr, arith}
 use Rattle.std.specs.List.{AllByRecursion}
 use Rattle.system.specs.Literals.{Valuation, bit, clause, clauses}
 use Rattle.system.specs.Systems.{System, step_bits, OverRelays, Rising}
@@ -12,25 +12,25 @@ use Rattle.solver.specs.Answers.{literals, model, Satisfied}
 use Rattle.books.specs.declared.entry.Entry.{Entry}
 use Rattle.books.specs.Entries.{held_clauses}
 use Rattle.books.specs.Books.{meets, book_loaded}
-use Rattle.questions.specs.Questions.{Narrow, StepAgainst}
+use Rattle.questions.specs.Questions.{StepAgainst}
 use Rattle.questions.proofs.Valuations.{before_model, after_model}
 use Rattle.questions.proofs.Initials.{over_32}
 
 module _ (c : System) (formed : StepFormed c) (safe : AllByRecursion (λ e. OverRelays c.n e × Rising e) c.safety) (es : List Entry)
-    (over : AllByRecursion (OverRelays c.n) (held_clauses c.n es)) (alike : (s : ℕ) → s < 2 ^ c.n → met c (held_clauses c.n es) s ≡ meets c es s)
-    (held : List (List ℕ)) (holds : held ≡ book_loaded c es) (d : List ℕ) (narrow : Narrow c.n d) (assumed : List ℕ)
-    (denied : length d ≤ 32 → OverRelays 32 d → (a : Valuation) → literals a assumed ≡ not (clause (after a) d)) where
+    (held_over : AllByRecursion (OverRelays c.n) (held_clauses c.n es)) (alike : (s : ℕ) → s < 2 ^ c.n → met c (held_clauses c.n es) s ≡ meets c es s)
+    (held : List (List ℕ)) (holds : held ≡ book_loaded c es) (d : List ℕ) (over : OverRelays c.n d) (assumed : List ℕ)
+    (denied : OverRelays 32 d → (a : Valuation) → literals a assumed ≡ not (clause (after a) d)) where
   few : c.n ≤ 32
   few = formed.relays
 
   false_after : (a : Valuation) → literals a assumed ≡ not (clause (after a) d)
-  false_after = denied narrow.short (over_32 c.n d few narrow.over)
+  false_after = denied (over_32 c.n d few over)
 
   before_over : AllByRecursion (OverRelays c.n) (c.safety ++ held_clauses c.n es)
   before_over =
       all_members (OverRelays c.n) (c.safety ++ held_clauses c.n es) (λ e m. elim (member_cases e c.safety (held_clauses c.n es) m) [
         | inl k ↦ (member_all (λ e. OverRelays c.n e × Rising e) c.safety e safe k).0
-        | inr k ↦ member_all (OverRelays c.n) (held_clauses c.n es) e over k
+        | inr k ↦ member_all (OverRelays c.n) (held_clauses c.n es) e held_over k
       ])
 
   -- a valuation with the relays of a state before a step
@@ -42,7 +42,7 @@ module _ (c : System) (formed : StepFormed c) (safe : AllByRecursion (λ e. Over
       record {
         consistent = subst T (meets_same a (number c.n a) (number_below c.n a) (λ v h. sym (bit_number c.n a v h))) parts.1;
         joined = step_of c formed a parts.0;
-        broken = subst T (false_after a ∙ ap not (relays_alike c.n (after a) (bit (number c.n (after a))) d narrow.over (λ v h. sym (bit_number c.n (after a) v h)))) s.1;
+        broken = subst T (false_after a ∙ ap not (relays_alike c.n (after a) (bit (number c.n (after a))) d over (λ v h. sym (bit_number c.n (after a) v h)))) s.1;
       }
     where
       parts : T (clauses a c.step) × T (clauses a (c.safety ++ held_clauses c.n es))
@@ -60,7 +60,7 @@ module _ (c : System) (formed : StepFormed c) (safe : AllByRecursion (λ e. Over
         | inl y ↦ y
         | inr n ↦ absurd (none a (
           subst (λ cs. T (clauses a cs)) (sym holds) (clauses_append a c.step (c.safety ++ held_clauses c.n es) j.joins (subst T (sym (meets_same a s j.low before)) m)),
-          subst T (sym (false_after a ∙ ap not (relays_alike c.n (after a) (bit t) d narrow.over behind))) n,
+          subst T (sym (false_after a ∙ ap not (relays_alike c.n (after a) (bit t) d over behind))) n,
         ))
       ]
     where

@@ -1,3 +1,4 @@
+pub mod Whole
 mod Valuations
 mod Initials
 mod Joins

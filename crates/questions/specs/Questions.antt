@@ -1,15 +1,10 @@
 -- What is asked of a system and its book: where a clause over relays is false.
-use Rattle.std.specs.Prelude.{ℕ, ◌≤◌, not, T, List, length, Some, None, Option}
+use Rattle.std.specs.Prelude.{ℕ, not, T, List, Some, None, Option}
 use Rattle.system.specs.Literals.{bit, clause}
-use Rattle.system.specs.Systems.{System, Initial, Step, Initiation, OverRelays}
+use Rattle.system.specs.Systems.{System, Initial, Step, Initiation}
 use Rattle.books.specs.declared.entry.Entry.{Entry}
 use Rattle.books.specs.Books.{meets}
 use Rattle.questions.specs.declared.transition.Transition.{Transition}
-
--- a clause over so many relays, with no more literals than a state has relays
-pub record Narrow (n : ℕ) (d : List ℕ) : Type 0 where
-  pub over : OverRelays n d
-  pub short : length d ≤ 32
 
 -- an initial state that makes a clause false, or that each makes it true
 abbrev pub InitialAgainst : System → List ℕ → Option ℕ → Type 0

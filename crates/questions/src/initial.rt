@@ -1,7 +1,7 @@
 // Questions about initial states.
-ghost use Rattle.std.specs.Prelude.{◌≡◌, ◌%◌, ◌^◌, ◌≤◌, IsTrue, ◌↔◌};
-ghost use Rattle.system.specs.Systems.{Initial};
-ghost use Rattle.questions.specs.Questions.{Narrow, InitialAgainst};
+ghost use Rattle.std.specs.Prelude.{◌≡◌, ◌%◌, ◌^◌, ◌≤◌, IsTrue, take, ◌↔◌};
+ghost use Rattle.system.specs.Systems.{Initial, OverRelays};
+ghost use Rattle.questions.specs.Questions.{InitialAgainst};
 
 use cases::Case;
 use denial::{Moment, deny};
@@ -10,9 +10,9 @@ use solver::{Answer, Solver};
 use system::is_true;
 
 // An initial state that makes the clause false, if there is one, where the solver holds the start clauses and the clause is
-// over the relays. The solver holds what it held.
+// over the relays. A clause counts as its first 32 literals. The solver holds what it held.
 pub fn initial_against<S: Solver>(solver: &mut S, case: &Case, clause: &[u8]) -> Option<u32>
-    ensures answer { S.Solver.held solver.old ≡ case.now.start → Narrow case.now.n clause.now → InitialAgainst case.now clause.now result }
+    ensures answer { S.Solver.held solver.old ≡ case.now.start → OverRelays case.now.n (take 32 clause.now) → InitialAgainst case.now (take 32 clause.now) result }
     ensures held { S.Solver.held solver.new ≡ S.Solver.held solver.old }
     ensures capacity { S.Solver.capacity solver.new ≡ S.Solver.capacity solver.old }
 {

@@ -1,10 +1,8 @@
 -- Targets that are passed because they have no counterexample, and the first that has one. Assumes nothing.
-use Rattle.std.proofs.Common.{◌≡◌, ℕ, ◌+◌, ◌-◌, ◌^◌, ◌<◌, ◌≤◌, true, not, ◌&&◌, T, ◌⊎◌, List, [], ◌∷◌, length, get_or, drop, Some, None, sym, refl, ap, ◌∙◌, subst, inl, inr, arith, nat_eq, nat_le}
+use Rattle.std.proofs.Common.{◌≡◌, ℕ, ◌+◌, ◌-◌, ◌^◌, ◌<◌, ◌≤◌, true, not, ◌&&◌, T, ◌⊎◌, List, [], length, get_or, Some, None, sym, refl, ap, ◌∙◌, subst, inl, inr, arith, nat_eq, nat_le}
 use Rattle.std.specs.List.{AllByRecursion}
 use Rattle.std.proofs.Math.Dec.{T_not}
 use Rattle.std.proofs.lemmas.Bool.{cases_lt, cases_eq, lt-ltb, le-ltb, leb-true, eq-eqb, ne_eqb, eqb-true}
-use Rattle.std.proofs.lemmas.List.{drop_more}
-use Rattle.std.proofs.Math.ListN.{drop_of_length-le}
 use Rattle.system.specs.Literals.{bit, clause}
 use Rattle.system.specs.Systems.{System, OverRelays, Rising}
 use Rattle.system.proofs.Truth.{T_of, T_true, and_l, and_r, and_i, all_place}
@@ -19,19 +17,9 @@ use Rattle.books.proofs.Entries.{aimed_clause, aimed_subgoal, subgoal_at_below}
 use Rattle.books.proofs.Ruled.{ruled_each, rule_low}
 use Rattle.books.proofs.Consistent.{false_just_there, held_low}
 use Rattle.system.proofs.Sizes.{rising_length}
-use Rattle.questions.specs.Questions.{Narrow, StepAgainst}
+use Rattle.questions.specs.Questions.{StepAgainst}
+use Rattle.questions.proofs.Whole.{Narrow}
 use Rattle.questions.specs.declared.transition.Transition.{Transition}
-
--- the clauses that are left of a list, after so many
-pub left_more : (ds : List (List ℕ)) (k : ℕ) (d : List ℕ) (rest : List (List ℕ)) → drop k ds ≡ d ∷ rest → (k < length ds) × (d ≡ get_or ds k []) × (rest ≡ drop (k + 1) ds)
-left_more ds k d rest e =
-    elim (cases_lt k (length ds)) [
-      | inl h ↦ (let q = sym e ∙ drop_more ds k [] h in (h, cc, cc))
-      | inr g ↦ absurd (let q = sym (drop_of_length-le ds g) ∙ e in cc)
-    ]
-
-pub left_none : (ds : List (List ℕ)) (k : ℕ) → drop k ds ≡ [] → length ds ≤ k
-left_none ds k e = elim (cases_lt k (length ds)) [ inl h ↦ absurd (let q = sym e ∙ drop_more ds k [] h in cc) | inr g ↦ g ]
 
 -- a safety clause as what is asked about
 pub narrow_clause : (c : System) → c.n ≤ 32 → AllByRecursion (λ d. OverRelays c.n d × Rising d) c.safety → (k : ℕ) (d : List ℕ) → k < length c.safety → d ≡ get_or c.safety k [] → Narrow c.n d

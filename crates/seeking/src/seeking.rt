@@ -1,25 +1,25 @@
 // The loops over the targets.
-ghost use Rattle.std.specs.Prelude.{◌≡◌, ◌<◌, ℕ, List, MatchOption};
+ghost use Rattle.std.specs.Prelude.{◌≡◌, ◌<◌, ◌≤◌, ℕ, List, length, MatchOption};
 ghost use Rattle.books.specs.declared.entry.Entry.{Entry};
 ghost use Rattle.books.specs.Books.{Ruled, book_loaded, Holding};
 ghost use Rattle.books.specs.Targets.{Counterexample as IsCounterexample, FirstCounterexample};
 ghost use Rattle.seeking.specs.Seeking.{Sought};
 
 use crate::counterexample::Counterexample;
-use books::{Entry, Kind, MOST_PLACES};
+use books::{Entry, Kind};
 use cases::Case;
 use faults::ListName;
 use questions::step_against;
 use solver::Solver;
 
-// A counterexample for the first target that has one, if there is one, where the solver holds the case and its book. The
-// solver holds what it held.
+// A counterexample for the first target that has one, if there is one, where the solver holds the case and its book. A book
+// has far fewer entries than the 65280 that 16 bits number from 256 on. The solver holds what it held.
 pub fn find_counterexample<S: Solver>(
     solver: &mut S,
     case: &Case,
     entries: &[Entry],
 ) -> Option<Counterexample>
-    ensures answer { Holding case.now entries.now (S.Solver.held solver.old) (S.Solver.capacity solver.old) → Sought case.now entries.now result }
+    ensures answer { Holding case.now entries.now (S.Solver.held solver.old) (S.Solver.capacity solver.old) → length entries.now ≤ 65280 → Sought case.now entries.now result }
     ensures held { S.Solver.held solver.new ≡ S.Solver.held solver.old }
     ensures capacity { S.Solver.capacity solver.new ≡ S.Solver.capacity solver.old }
 {
@@ -36,7 +36,7 @@ fn among_clauses<S: Solver>(solver: &mut S, case: &Case) -> Option<Counterexampl
     ensures held { S.Solver.held solver.new ≡ S.Solver.held solver.old }
     ensures capacity { S.Solver.capacity solver.new ≡ S.Solver.capacity solver.old }
 {
-    // a case is an admitted system
+    // asked only to learn that a case is an admitted system
     prove!(case.relays() <= 32);
     let mut found = None;
     'clauses: for (number, clause) in case.list(ListName::Safety).enumerate() {
@@ -60,17 +60,14 @@ fn among_subgoals<S: Solver>(
     case: &Case,
     entries: &[Entry],
 ) -> Option<Counterexample>
-    ensures answer { Holding case.now entries.now (S.Solver.held solver.old) (S.Solver.capacity solver.old) → ((k s t : ℕ) → k < 256 → IsCounterexample case.now entries.now k s t → ⊥) → Sought case.now entries.now result }
+    ensures answer { Holding case.now entries.now (S.Solver.held solver.old) (S.Solver.capacity solver.old) → length entries.now ≤ 65280 → ((k s t : ℕ) → k < 256 → IsCounterexample case.now entries.now k s t → ⊥) → Sought case.now entries.now result }
     ensures held { S.Solver.held solver.new ≡ S.Solver.held solver.old }
     ensures capacity { S.Solver.capacity solver.new ≡ S.Solver.capacity solver.old }
 {
-    // a case is an admitted system
+    // asked only to learn that a case is an admitted system
     prove!(case.relays() <= 32);
     let mut found = None;
     'subgoals: for (number, entry) in entries.iter().enumerate() {
-        if number == MOST_PLACES {
-            break 'subgoals;
-        }
         if let Kind::Subgoal = entry.kind {
             let mut clause = [0; 32];
             let count = entry.write_held(case, &mut clause);
@@ -78,7 +75,8 @@ fn among_subgoals<S: Solver>(
                 found = Some(Counterexample {
                     state: step.state,
                     successor: step.successor,
-                    target: 256 + number as u16,
+                    // stays a cast: 16 bits number 65280 entries from 256 on
+                    target: ((256 + number) % 65536) as u16,
                 });
                 break 'subgoals;
             }

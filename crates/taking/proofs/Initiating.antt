@@ -1,7 +1,7 @@
 -- Candidates asked one after another whether they are true in every initial state. Assumes nothing.
 use Rattle.std.proofs.Common.{◌≡◌, ℕ, ◌+◌, ◌<◌, ◌≤◌, true, ◌↔◌, List, [], ◌∷◌, length, get_or, drop, set, sym, ap, ◌∙◌, subst, subst₂, inl, inr, arith}
-use Rattle.std.proofs.lemmas.Bool.{cases_lt, cases_eq}
-use Rattle.std.proofs.lemmas.List.{length-set, length-drop, drop_more, get_or-set_other}
+use Rattle.std.proofs.lemmas.Bool.{cases_eq}
+use Rattle.std.proofs.lemmas.List.{length-set, length-drop, get_or-set_other}
 use Rattle.std.proofs.lemmas.Grind.{get_or-set_at}
 use Rattle.system.specs.Literals.{bit, clause}
 use Rattle.system.specs.Systems.{System, Initiation, OverRelays, Rising}
@@ -13,7 +13,8 @@ use Rattle.sieve.proofs.Marked.{marked_is, is_marked, marked_below, all_small}
 use Rattle.candidate_sieve.specs.Candidates.{Formed}
 use Rattle.candidate_sieve.proofs.Denied.{formed_length}
 use Rattle.candidate_sieve.proofs.Reading.{candidates_formed}
-use Rattle.questions.specs.Questions.{Narrow}
+use Rattle.questions.proofs.Whole.{Narrow}
+use Rattle.lists.proofs.Left.{left_more}
 use Rattle.taking.specs.Taking.{InitiallyTrue}
 
 -- a mark that tells whether a candidate is true in every initial state
@@ -28,14 +29,6 @@ module _ (c : System) (capacity : Capacity) (ds : List (List ℕ)) where
     pub small : (i : ℕ) → i < n → get_or M i 0 < 2
     pub told : spare (need_of c.start) [] capacity ≡ true → CandidateList c.n ds → (i : ℕ) → i < n → Tells c (get_or ds i []) (get_or M i 0)
 
-  -- the next candidate, by its place
-  next_at : (n : ℕ) (d : List ℕ) (rest : List (List ℕ)) → drop n ds ≡ d ∷ rest → (n < length ds) × (get_or ds n [] ≡ d) × (drop (n + 1) ds ≡ rest)
-  next_at n d rest e =
-      elim (cases_lt n (length ds)) [
-        | inl h ↦ (let f = sym (drop_more ds n [] h) ∙ e in (h, cc, cc))
-        | inr g ↦ absurd (let l = length-drop n ds in let f = ap length e in let z : ⊥ = omega arith in z)
-      ]
-
   narrow : CandidateList c.n ds → c.n ≤ 32 → (n : ℕ) → n < length ds → Narrow c.n (get_or ds n [])
   narrow list few n h = record {
     over = (all_place (λ d. OverRelays c.n d × Rising d) ds [] n list.formed h).0;
@@ -45,20 +38,20 @@ module _ (c : System) (capacity : Capacity) (ds : List (List ℕ)) where
   module _ (M : List ℕ) (d : List ℕ) (rest : List (List ℕ)) (n x : ℕ) (before : Initiating M (d ∷ rest) n) where
     pub initiating_on : c.n ≤ 32 → x < 2 → (spare (need_of c.start) [] capacity ≡ true → Narrow c.n d → Tells c d x) → Initiating (set M n x) rest (n + 1)
     initiating_on few low tells = record {
-      left = next.2;
+      left = sym next.2;
       long = length-set M n x ∙ before.long;
       small = λ i h. elim (cases_eq i n) [
         | inl e ↦ subst (λ y. y < 2) (sym (here i e)) low
         | inr other ↦ subst (λ y. y < 2) (sym (get_or-set_other M n i x 0 other)) (before.small i (omega arith))
       ];
       told = λ room list i h. elim (cases_eq i n) [
-        | inl e ↦ subst₂ (Tells c) (sym (ap (λ j. get_or ds j []) e ∙ next.1)) (sym (here i e)) (tells room (subst (Narrow c.n) next.1 (narrow list few n next.0)))
+        | inl e ↦ subst₂ (Tells c) (sym (ap (λ j. get_or ds j []) e ∙ sym next.1)) (sym (here i e)) (tells room (subst (Narrow c.n) (sym next.1) (narrow list few n next.0)))
         | inr other ↦ subst (Tells c (get_or ds i [])) (sym (get_or-set_other M n i x 0 other)) (before.told room list i (omega arith))
       ];
     }
       where
-        next : (n < length ds) × (get_or ds n [] ≡ d) × (drop (n + 1) ds ≡ rest)
-        next = next_at n d rest before.left
+        next : (n < length ds) × (d ≡ get_or ds n []) × (rest ≡ drop (n + 1) ds)
+        next = left_more ds n d rest before.left
 
         here : (i : ℕ) → i ≡ n → get_or (set M n x) i 0 ≡ x
         here i e = get_or-set_at M n i x 0 e (let l = before.long in let b = next.0 in omega arith)

@@ -1,11 +1,10 @@
 // Candidates that are true at the start, and the descent on these.
 ghost use Rattle.std.specs.Prelude.{◌≡◌, ◌<◌, ◌↔◌, true, [], length, take};
 ghost use Rattle.system.specs.Literals.{bit, clause};
-ghost use Rattle.system.specs.Systems.{Initiation};
+ghost use Rattle.system.specs.Systems.{Initiation, OverRelays};
 ghost use Rattle.solver.specs.Answers.{need_of, spare};
 ghost use Rattle.layout.specs.Spelling.{Admitted};
 ghost use Rattle.clauses.specs.Candidates.{CandidateList};
-ghost use Rattle.questions.specs.Questions.{Narrow};
 ghost use Rattle.books.specs.Books.{Ready};
 ghost use Rattle.taking.specs.Taking.{InitiallyTrue, Sieved, TakesLargest};
 
@@ -33,6 +32,7 @@ pub fn choose<S: Solver>(
     let places = candidates.places();
     let chosen = &mut marks[..places];
     mark_initiated(solver, case, candidates, chosen);
+    // neither call refuses where there is room for the book and the candidates
     let _ = load_book(solver, case, entries);
     let _ = descend(candidates, solver, chosen);
     solver.wipe();
@@ -50,8 +50,9 @@ fn mark_initiated<S: Solver>(
     ensures admitted { Admitted case.now }
     ensures capacity { S.Solver.capacity solver.new ≡ S.Solver.capacity solver.old }
 {
-    // says that the system is an admitted one
-    let _ = case.relays();
+    // asked only to learn that a case is an admitted system
+    prove!(case.relays() <= 32);
+    // fits where there is the room
     let _ = load_start(solver, case);
     for (i, candidate) in candidates.candidates().enumerate() {
         marks[i] = initial_mark(solver, case, candidate);
@@ -59,10 +60,10 @@ fn mark_initiated<S: Solver>(
 }
 
 // 1 where a clause is true in every initial state, else 0, where the solver holds the start clauses and the clause is over
-// the relays. The solver holds what it held.
+// the relays. It counts as its first 32 literals. The solver holds what it held.
 fn initial_mark<S: Solver>(solver: &mut S, case: &Case, candidate: &[u8]) -> u8
     ensures bound { result < 2 }
-    ensures initiated { S.Solver.held solver.old ≡ case.now.start → Narrow case.now.n candidate.now → (result ≡ 1) ↔ Initiation case.now (λ s. clause (bit s) candidate.now) }
+    ensures initiated { S.Solver.held solver.old ≡ case.now.start → OverRelays case.now.n (take 32 candidate.now) → (result ≡ 1) ↔ Initiation case.now (λ s. clause (bit s) (take 32 candidate.now)) }
     ensures held { S.Solver.held solver.new ≡ S.Solver.held solver.old }
     ensures capacity { S.Solver.capacity solver.new ≡ S.Solver.capacity solver.old }
 {

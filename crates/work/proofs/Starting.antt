@@ -6,7 +6,8 @@ use Rattle.system.specs.Systems.{System, Initial, OverRelays, Rising}
 use Rattle.system.proofs.Truth.{T_true, T_false}
 use Rattle.layout.specs.Spelling.{Admitted}
 use Rattle.system.proofs.Sizes.{rising_length}
-use Rattle.questions.specs.Questions.{Narrow, InitialAgainst}
+use Rattle.questions.specs.Questions.{InitialAgainst}
+use Rattle.questions.proofs.Whole.{Narrow}
 use Rattle.work.specs.Opening.{BrokenAtStart}
 
 -- the clauses not asked yet: in an initial state all safety clauses are true where these are

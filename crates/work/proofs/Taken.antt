@@ -58,7 +58,6 @@ module _ (capacity : Capacity) (x : Stage) (h : checked capacity x ≡ None) (v 
       let long = length-take-le x.work.used x.book (omega arith) in
       record {
         ruled = p.1.1.0;
-        few = omega (arith, seen_places);
         room = enough_fewer x.work.system capacity (length (entries x)) x.work.places (omega arith) (unmet_none _ _ p.1.1.1.0);
       }
 

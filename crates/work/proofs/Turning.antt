@@ -49,14 +49,15 @@ module _ (capacity : Capacity) (c : System) (places used : ℕ) (v : Verdict) (w
     ready =
         let passed = first_none (unmet (not (decided v)) Decided ∷ unmet (nat_eq (length book) places) BookSize ∷ rules_fault c es ∷ unmet (enough capacity c places) TooSmall ∷ []) passes in
         let long = length-take-le used book (omega (arith, size)) in
-        record { ruled = passed.1.1.0; few = omega arith; room = enough_fewer c capacity (length es) places (omega arith) (unmet_none _ TooSmall passed.1.1.1.0) }
+        record { ruled = passed.1.1.0; room = enough_fewer c capacity (length es) places (omega arith) (unmet_none _ TooSmall passed.1.1.1.0) }
 
     -- the solver was loaded with case and book
     pub holding_now : (r : Result (Unit {0}) NoCapacity) (after : List (List ℕ)) (room : Capacity) → is_ok r ≡ spare (need_of (book_loaded c es)) [] capacity
-        → after ≡ (if is_ok r then book_loaded c es else []) → room ≡ capacity → Holding c es after room
+        → after ≡ (if is_ok r then book_loaded c es else []) → room ≡ capacity → Holding c es after room × (length es ≤ 65280)
     holding_now r after room test e same =
         let ok : is_ok r ≡ true = test ∙ loaded_room c es ready.ruled capacity ready.room in
-        record { ready = subst (Ready c es) (sym same) ready; loads = e ∙ ap (λ b. if b then book_loaded c es else []) ok }
+        let long = length-take-le used book (omega (arith, size)) in
+        (record { ready = subst (Ready c es) (sym same) ready; loads = e ∙ ap (λ b. if b then book_loaded c es else []) ok }, omega arith)
 
     pub holds_now : (after : List (List ℕ)) → NoCounterexample c es → after ≡ book_loaded c es
         → Turned capacity (with_work work) (Ok tt) (record { work = record { system = c; places = places; used = used; verdict = Holds }; book = book; held = after })

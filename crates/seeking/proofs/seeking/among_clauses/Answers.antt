@@ -1,8 +1,11 @@
-use Rattle.std.proofs.Common.{drop, sym, ap, ◌∙◌, subst, rules}
+use Rattle.std.proofs.Common.{None, Some, drop, sym, ap, ◌∙◌, subst, rules}
 use Rattle.std.specs.Iterator.Adapters.{enumerate_source, enumerate_count}
 use Rattle.books.specs.Targets.{FirstCounterexample}
 use Rattle.lists.specs.Lists.{clauses_of}
-use Rattle.seeking.proofs.Passing.{Passed, left_more, left_none, narrow_clause, clause_first, clause_passed, clauses_passed}
+use Rattle.questions.specs.Questions.{StepAgainst}
+use Rattle.questions.proofs.Whole.{whole}
+use Rattle.lists.proofs.Left.{left_more, left_none}
+use Rattle.seeking.proofs.Passing.{Passed, narrow_clause, clause_first, clause_passed, clauses_passed}
 use Rattle.seeking.proofs.seeking.among_clauses.Goals as goal
 
 pub clauses-preserved : goal.clauses-preserved
@@ -21,7 +24,7 @@ clauses-preserved g c =
       capacity = c.step_against.ensures.capacity ∙ i.capacity;
       none = i.none;
       left = ap (λ n. drop n system.safety) step.2 ∙ sym here.2;
-      passed = λ es ruled holds. subst (Passed system es) (sym step.2) (clause_passed system es k d here.0 here.1 (i.passed es ruled holds) (c.in_default.ensures.answer es ruled (i.held ∙ holds) narrow));
+      passed = λ es ruled holds. subst (Passed system es) (sym step.2) (clause_passed system es k d here.0 here.1 (i.passed es ruled holds) (whole (λ x. StepAgainst system es x None) system.n d (c.in_default.ensures.answer es ruled (i.held ∙ holds)) narrow));
     }
 
 pub returns-in-None-clause-answer : goal.returns-in-None-clause-answer
@@ -42,4 +45,4 @@ returns-in-Some-step_against-clause-answer g c es ruled holds =
     let narrow = narrow_clause system c.relays.ensures.admitted.relays.1 c.relays.ensures.admitted.safety_clauses k d here.0 here.1 in
     let x = c.in-Some-step_against.step in
     subst (λ n. FirstCounterexample system es n x.state x.successor) (sym step.1)
-    (clause_first system es k d x here.0 here.1 (i.passed es ruled holds) (c.in-Some-step_against.ensures.answer es ruled (i.held ∙ holds) narrow))
+    (clause_first system es k d x here.0 here.1 (i.passed es ruled holds) (whole (λ f. StepAgainst system es f (Some x)) system.n d (c.in-Some-step_against.ensures.answer es ruled (i.held ∙ holds)) narrow))

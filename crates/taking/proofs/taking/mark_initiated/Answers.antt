@@ -1,7 +1,8 @@
 use Rattle.std.proofs.Common.{rules, ◌+◌, ◌∙◌, set, sym, ap, subst, subst₂}
 use Rattle.std.specs.Iterator.Adapters.{enumerate_source, enumerate_count}
 use Rattle.lists.specs.Lists.{clauses_of}
-use Rattle.taking.proofs.Initiating.{Initiating, initiating_on, initiating_end}
+use Rattle.questions.proofs.Whole.{whole}
+use Rattle.taking.proofs.Initiating.{Tells, Initiating, initiating_on, initiating_end}
 use Rattle.taking.proofs.taking.mark_initiated.Goals as goal
 
 pub loop-i-preserved : goal.loop-i-preserved
@@ -23,7 +24,7 @@ loop-i-preserved g c =
       capacity = c.initial_mark.ensures.capacity ∙ i.capacity;
       held = λ room. c.initial_mark.ensures.held ∙ i.held room;
       initiating = subst (Initiating system capacity ds (set M n x) rest) (ap (λ k. k + 1) steps.1 ∙ sym steps.2)
-          (initiating_on system capacity ds M d rest n x before c.relays.ensures.admitted.relays.1 c.initial_mark.ensures.bound (λ room. c.initial_mark.ensures.initiated (i.held room)));
+          (initiating_on system capacity ds M d rest n x before c.relays.ensures.admitted.relays.1 c.initial_mark.ensures.bound (λ room. whole (λ e. Tells system e x) system.n d (c.initial_mark.ensures.initiated (i.held room))));
     }
 
 pub returns-clause-initially : goal.returns-clause-initially
