@@ -10,6 +10,6 @@ pub(crate) fn code_of(descended: Result<(), WorkFault>) -> u32
 {
     match descended {
         Ok(()) => 0,
-        Err(fault) => fault.number().max(1),
+        Err(fault) => fault.error_code(),
     }
 }

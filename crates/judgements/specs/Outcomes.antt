@@ -1,9 +1,9 @@
 -- What judging a case comes to, in numbers, and what they say of its system.
-use Rattle.std.specs.Prelude.{◌≡◌, ◌⊎◌, ℕ, ◌^◌, ◌<◌, max, List, [], length, Ok, Err, Result, Some, None, Option, nat_le}
+use Rattle.std.specs.Prelude.{◌≡◌, ◌⊎◌, ℕ, ◌^◌, ◌<◌, List, [], length, Ok, Err, Result, Some, None, Option, nat_le}
 use Rattle.system.specs.Systems.{System, BrokenRun, Safe}
 use Rattle.solver.specs.declared.capacity.Capacity.{Capacity}
 use Rattle.faults.specs.Firsts.{unmet}
-use Rattle.faults.specs.Refusals.{work_refusal}
+use Rattle.faults.specs.Refusals.{work_refusal, error_code}
 use Rattle.faults.specs.declared.case.CaseFault.{CaseFault}
 use Rattle.faults.specs.declared.case.CaseFault.TheVariants.{NoMemory}
 use Rattle.faults.specs.declared.work.WorkFault.{WorkFault}
@@ -69,4 +69,4 @@ Outcome bs places (Err f) = (judge_fault (read_case bs) places ≡ Some f) ⊎ (
 -- it is told with 0; else the number of the refusal is returned, 1 where it has none, and nothing is told
 abbrev pub Told : JudgeTold → Result JudgeTold WorkFault → ℕ → JudgeTold → Type 0
 Told given (Ok told) code out = (code ≡ 0) × (out ≡ told)
-Told given (Err f) code out = (code ≡ max (work_refusal f).number 1) × (out ≡ given)
+Told given (Err f) code out = (code ≡ error_code (work_refusal f)) × (out ≡ given)

@@ -67,6 +67,6 @@ pub extern "C" fn hokhnebi_judge(
             *told = judgement;
             0
         }
-        Err(fault) => fault.number().max(1),
+        Err(fault) => fault.error_code(),
     }
 }
