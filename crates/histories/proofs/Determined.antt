@@ -16,7 +16,7 @@ use Rattle.learning.specs.Learning.{LiteralClosed, Initiated, DescendedTo, Trimm
 use Rattle.taking.specs.Taking.{CandidateClosed, InitiallyTrue, Sieved, taken_entries}
 use Rattle.histories.specs.declared.verdict.Verdict.{Verdict}
 use Rattle.histories.specs.declared.verdict.Verdict.TheVariants.{Undecided}
-use Rattle.histories.specs.Calls.{Stage, entries, storing, Judged, Learned, learned_clause, learned_subgoal, Took, take_refused, take_unread, take_full, take_stores}
+use Rattle.histories.specs.Calls.{Stage, entries, storing, SubgoalVerdict, Learned, learned_clause, learned_subgoal, Took, take_refused, take_unread, take_full, take_stores}
 use Rattle.histories.specs.Laws.{TurnDetermined, TakingDetermined}
 
 module _ (places : ℕ) (closed good : List ℕ → Type 0) where
@@ -37,7 +37,7 @@ module _ (places : ℕ) (closed good : List ℕ → Type 0) where
   trimmed_only zero M A B e f = e ∙ sym f
   trimmed_only (suc k) M A B (K, h, a) (L, g, b) = tried_only k L A B (subst (λ z. Tried places closed good k z A) (trimmed_only k M K L h g) a) b
 
-judged_only : (c : System) (s : ℕ) (p q : Verdict) → Judged c s p → Judged c s q → p ≡ q
+judged_only : (c : System) (s : ℕ) (p q : Verdict) → SubgoalVerdict c s p → SubgoalVerdict c s q → p ≡ q
 judged_only c s p q (inl a) (inl b) = a.1 ∙ sym b.1
 judged_only c s p q (inl a) (inr b) = absurd (b.0 a.0)
 judged_only c s p q (inr a) (inl b) = absurd (a.0 b.0)

@@ -96,13 +96,13 @@ pub data OpenedFrom (capacity : Capacity) (bs : List ℕ) (places : ℕ) (held :
   open_read : (c : System) → Read bs (Ok c) → Opened capacity c places held r after → OpenedFrom capacity bs places held r after
 
 -- a subgoal decides exactly where its state is initial
-abbrev pub Judged : System → ℕ → Verdict → Type 0
-Judged c s v = (Initial c s × (v ≡ BrokenByEntry)) ⊎ ((Initial c s → ⊥) × (v ≡ Undecided))
+abbrev pub SubgoalVerdict : System → ℕ → Verdict → Type 0
+SubgoalVerdict c s v = (Initial c s × (v ≡ BrokenByEntry)) ⊎ ((Initial c s → ⊥) × (v ≡ Undecided))
 
 -- the entry that a turn makes of a counterexample, with the verdict: the trimmed clause, or the state as a subgoal
 pub data Learned (c : System) (es : List Entry) (k s t : ℕ) (e : Entry) (v : Verdict) : Type 0 where
   learned_clause : LearnedClause c es s e → v ≡ Undecided → Learned c es k s t e v
-  learned_subgoal : NothingLearned c es s → e ≡ subgoal s t k → Judged c s v → Learned c es k s t e v
+  learned_subgoal : NothingLearned c es s → e ≡ subgoal s t k → SubgoalVerdict c s v → Learned c es k s t e v
 
 -- a turn: refused by a check, decided as holding, refused for want of a place, or one entry stored
 pub data Turned (capacity : Capacity) (x : Stage) (r : Result (Unit {0}) WorkFault) (y : Stage) : Type 0 where
