@@ -8,10 +8,13 @@ pub enum Verdict {
     BrokenByEntry,
 }
 
-// What a look at a work shows: the verdict, how many places of the book are used, and how many there are.
+// What a look at a work shows.
 #[derive(Clone, Copy, PartialEq, Eq, Debug)]
 pub struct Look {
+    // What was judged of the case.
     pub verdict: Verdict,
+    // How many places of the book are used.
     pub used: usize,
+    // How many places the book has.
     pub places: usize,
 }

@@ -4,14 +4,17 @@ ghost use Rattle.judgements.specs.Outcomes.{verdict_number, storeless};
 
 use histories::{Look, Verdict};
 
-// The verdict, 0 where there is none for want of a place, 1 where every run is safe, 2 where one is broken; how many turns
-// were accepted, how many entries were stored, and how many questions were asked.
+// What came of a judging.
 #[derive(Clone, Copy)]
 #[repr(C)]
 pub struct JudgeTold {
+    // 0 where there is no verdict for want of a place, 1 where every run is safe, 2 where one is broken.
     pub verdict: u32,
+    // How many turns were accepted.
     pub turns: usize,
+    // How many entries were stored.
     pub used: usize,
+    // How many questions the solver was asked.
     pub asked: u64,
 }
 

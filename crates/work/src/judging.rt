@@ -10,9 +10,11 @@ use faults::WorkFault;
 use solver::Solver;
 use std::alloc::Global;
 
-// A closed work, and why its last turn was refused, where no verdict was given.
+// What judging a case gives.
 pub struct Judged {
+    // The work, closed after its last turn.
     pub closed: Closed,
+    // Why that turn was refused, where no verdict was given.
     pub refused: Option<WorkFault>,
 }
 
