@@ -1,39 +1,20 @@
 -- What judging gives is what the program answers. Assumes nothing.
-use Rattle.std.proofs.Common.{true≢false, is_some, ◌≡◌, ℕ, ◌+◌, ◌*◌, List, [], length, replicate, get_or, take, Some, None, Ok, Err, Option, sym, refl, ap, ◌∙◌, subst, subst₂, inl, inr, arith, w8, Fits}
-use Rattle.std.proofs.lemmas.Bool.{le-leb}
-use Rattle.system.specs.Systems.{System}
-use Rattle.system.specs.Literals.{size}
+use Rattle.std.proofs.Common.{◌≡◌, ℕ, List, [], length, replicate, get_or, take, Err, Option, sym, refl, ap, ◌∙◌, subst, subst₂, arith, w8, Fits}
 use Rattle.solver.specs.declared.capacity.Capacity.{Capacity}
 use Rattle.faults.specs.Refusals.{work_refusal}
 use Rattle.faults.specs.declared.case.CaseFault.TheVariants.{NoMemory}
 use Rattle.faults.specs.declared.work.WorkFault.{WorkFault}
 use Rattle.faults.specs.declared.work.WorkFault.TheVariants.{InCase}
 use Rattle.layout.specs.Reading.{read_case}
-use Rattle.layout.specs.Spelling.{Admitted}
 use Rattle.layout.proofs.Law.{read_as_spelled}
-use Rattle.cases.proofs.Promises.{read_law}
 use Rattle.books.specs.declared.entry.Entry.{Entry}
 use Rattle.books.specs.Entries.{blank}
-use Rattle.books.specs.Books.{room_fault}
-use Rattle.books.proofs.Rooms.{short_lists}
-use Rattle.histories.specs.Calls.{Stage, OpenedFrom, open_unread, open_read, open_refused, open_broken, open_sound}
+use Rattle.books.proofs.Rooms.{room_enough}
+use Rattle.histories.specs.Calls.{Stage, OpenedFrom, open_unread, open_scarce, open_read, open_refused, open_broken, open_sound}
 use Rattle.histories.specs.Promises.{Judging, JudgingPromises}
-use Rattle.histories.proofs.Promised.{err_ok}
+use Rattle.histories.proofs.Promised.{some_none, err_ok}
 use Rattle.report.specs.Lines.{refusal_line, judged_lines}
 use Rattle.answer.specs.Answer.{look_of, room, AnswerTo}
-
--- it is enough for any case and 64 places
-room_enough : (c : System) → Admitted c → room_fault room c 64 ≡ None
-room_enough c a =
-    let few = a.few in
-    let relays = a.relays in
-    let short = short_lists c a in
-    rw
-    (le-leb (0 + (length c.start + length c.step + length c.safety + 64 + 513)) 2113 (omega arith), le-leb (0 + (size c.start + size c.step + size c.safety + c.n * (64 + 513))) 51232 (omega arith))
-    refl
-
-some_none : (f : WorkFault) → Some f ≡ None → ⊥
-some_none f e = true≢false (ap is_some e)
 
 module _ (bs : List ℕ) (small : (i : ℕ) → Fits w8 (get_or bs i 0)) (text : List ℕ) where
   pub judged_answer : (most : Capacity) (place : Entry) (before : List (List ℕ)) (f : Option WorkFault) (y : Stage) → most ≡ room → place ≡ blank → before ≡ []
@@ -53,13 +34,12 @@ module _ (bs : List ℕ) (small : (i : ℕ) → Fits w8 (get_or bs i 0)) (text :
 
   unopened_answer : (f : WorkFault) (held after : List (List ℕ)) → OpenedFrom room bs 64 held (Err f) after → (f ≡ InCase NoMemory → ⊥) → text ≡ refusal_line (work_refusal f)
       → AnswerTo bs (read_case bs) text
-  unopened_answer f held after (open_unread g (inl a) e h) had t =
+  unopened_answer f held after (open_unread g a e h) had t =
       let same : f ≡ InCase g = cc in
-      subst (λ r. AnswerTo bs r text) a (t ∙ ap (λ f. refusal_line (work_refusal f)) same)
-  unopened_answer f held after (open_unread g (inr a) e h) had t = absurd (had (let same : f ≡ InCase g = cc in let none : g ≡ NoMemory = cc a.0 in same ∙ ap InCase none))
+      subst (λ r. AnswerTo bs r text) (sym a) (t ∙ ap (λ f. refusal_line (work_refusal f)) same)
+  unopened_answer f held after (open_scarce c a n e h) had t = absurd (had cc)
   unopened_answer f held after (open_read c a (open_refused g r e h)) had t =
-      let admitted = ((read_law bs small (Ok c) a (λ q. err_ok (Ok c) NoMemory c q refl) c).0 refl).0 in
-      absurd (some_none g (sym r ∙ room_enough c admitted))
+      absurd (some_none g (sym r ∙ room_enough c ((read_as_spelled bs small c).0 a).0 room 64 (omega arith) (omega arith) (omega arith)))
   unopened_answer f held after (open_read c a (open_broken r s i b e h)) had t = absurd (err_ok (Err f) f _ refl e)
   unopened_answer f held after (open_read c a (open_sound r n e h)) had t = absurd (err_ok (Err f) f _ refl e)
 

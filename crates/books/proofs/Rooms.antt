@@ -1,5 +1,5 @@
 -- The room that a system and its book need, and what of it is left beside the loaded book. Assumes nothing.
-use Rattle.std.proofs.Common.{◌≡◌, ℕ, zero, suc, ◌+◌, ◌*◌, ◌^◌, ◌<◌, ◌≤◌, Bool, true, false, cond, not, T, List, [], ◌∷◌, ◌++◌, length, refl, ap, inl, inr, arith, length-append, mul-add, le_trans, nat_le}
+use Rattle.std.proofs.Common.{◌≡◌, ℕ, zero, suc, ◌+◌, ◌-◌, ◌*◌, ◌^◌, ◌<◌, ◌≤◌, Bool, true, false, cond, not, T, List, [], ◌∷◌, ◌++◌, length, None, Option, refl, ap, ap₂, ◌∙◌, inl, inr, arith, length-append, mul-add, le_trans, nat_le}
 use Rattle.std.specs.List.{AllByRecursion}
 use Rattle.std.proofs.Math.Nat.{mul-suc}
 use Rattle.std.proofs.lemmas.Bool.{and_parts, and_from, leb-true, le-leb, cases_lt}
@@ -12,7 +12,7 @@ use Rattle.system.proofs.Spelled.{length_spelled}
 use Rattle.solver.specs.Answers.{need_of, spare}
 use Rattle.solver.specs.declared.capacity.Capacity.{Capacity}
 use Rattle.books.specs.Entries.{held_as, held_clauses}
-use Rattle.books.specs.Books.{rule_as, Ruled, book_loaded, enough}
+use Rattle.books.specs.Books.{rule_as, Ruled, book_loaded, room_for, enough, room_fault}
 use Rattle.books.specs.declared.entry.Entry.{Entry}
 use Rattle.books.specs.declared.entry.Kind.{Kind}
 use Rattle.books.specs.declared.entry.Kind.TheVariants.{Blank, Found, Subgoal, Taken}
@@ -21,9 +21,15 @@ use Rattle.books.proofs.Ruled.{member_rule, rule_low}
 use Rattle.std.proofs.lemmas.Nat.{mul-le}
 use Rattle.system.specs.Literals.{size}
 use Rattle.system.specs.Systems.{System}
-use Rattle.faults.specs.declared.case.ListName.TheVariants.{Safety}
-use Rattle.layout.specs.Spelling.{Admitted}
-use Rattle.cases.proofs.Places.{list_ends, spelled_size}
+use Rattle.faults.specs.Firsts.{or_else}
+use Rattle.faults.specs.Refusals.{count_place}
+use Rattle.faults.specs.declared.case.ListName.TheVariants.{Start, Step, Safety}
+use Rattle.faults.specs.declared.work.WorkFault.TheVariants.{TooManyPlaces, NoCapacity}
+use Rattle.faults.proofs.Firsts.{none_unmet}
+use Rattle.layout.specs.Reading.{field}
+use Rattle.layout.specs.Spelling.{spell, Admitted}
+use Rattle.layout.proofs.Law.{spelled_length, field_relays}
+use Rattle.cases.proofs.Places.{list_ends, spelled_size, counted}
 
 -- the lists of a system have few literals together
 pub short_lists : (c : System) → Admitted c → size c.start + size c.step + size c.safety ≤ 32768
@@ -35,13 +41,36 @@ short_lists c a =
     let z = spelled_size c.safety in
     omega arith
 
--- and few with a book
-pub short_room : (c : System) → Admitted c → (places : ℕ) → places ≤ 8192 → size c.start + size c.step + size c.safety + c.n * (places + 513) ≤ 311328
-short_room c a places h =
-    let e = short_lists c a in
-    let r = a.relays.1 in
-    let m : c.n * (places + 513) ≤ 32 * 8705 = mul-le c.n (places + 513) 32 8705 r (omega arith) in
-    omega arith
+both_none : {F : Type 0} (o p : Option F) → o ≡ None → p ≡ None → or_else o p ≡ None
+both_none o p a b = grind arith
+
+-- so much room is enough for any system and so many places
+pub room_enough : (c : System) → Admitted c → (capacity : Capacity) (places : ℕ) → places ≤ 8192
+    → 2049 + places ≤ capacity.clauses → 32768 + 32 * (places + 513) ≤ capacity.literals → room_fault capacity c places ≡ None
+room_enough c a capacity places h clauses literals =
+    let few = a.few in
+    let short = short_lists c a in
+    let m : c.n * (places + 513) ≤ 32 * (places + 513) = mul-le c.n (places + 513) 32 (places + 513) a.relays.1 (omega arith) in
+    let fits = and_from _ _ (le-leb (0 + (length c.start + length c.step + length c.safety + places + 513)) capacity.clauses (omega arith)) (le-leb (0 + (size c.start + size c.step + size c.safety + c.n * (places + 513))) capacity.literals (omega arith)) in
+    both_none _ _ (none_unmet (nat_le places 8192) TooManyPlaces (le-leb places 8192 h)) (none_unmet _ NoCapacity fits)
+
+-- the room that the bytes of a system tell
+pub told_room : (c : System) (bytes : List ℕ) (places : ℕ) → bytes ≡ spell c → (relays start step safety literals : ℕ) → relays ≡ field bytes 0
+    → start ≡ field bytes (count_place Start) → step ≡ field bytes (count_place Step) → safety ≡ field bytes (count_place Safety)
+    → literals ≡ length bytes - (18 + (start + step + safety))
+    → record { clauses = start + step + safety + (places + 513); literals = literals + relays * (places + 513) } ≡ room_for c places
+told_room c bytes places e relays start step safety literals r a b d l =
+    let n : relays ≡ c.n = r ∙ ap (λ bs. field bs 0) e ∙ field_relays c in
+    let i : start ≡ length c.start = a ∙ ap (λ bs. field bs (count_place Start)) e ∙ counted c Start in
+    let j : step ≡ length c.step = b ∙ ap (λ bs. field bs (count_place Step)) e ∙ counted c Step in
+    let k : safety ≡ length c.safety = d ∙ ap (λ bs. field bs (count_place Safety)) e ∙ counted c Safety in
+    let x = spelled_size c.start in
+    let y = spelled_size c.step in
+    let z = spelled_size c.safety in
+    let long = ap length e ∙ spelled_length c in
+    let all : literals ≡ size c.start + size c.step + size c.safety = omega arith in
+    let m : relays * (places + 513) ≡ c.n * (places + 513) = ap (λ n. n * (places + 513)) n in
+    ap₂ (λ (k l : ℕ). record { clauses = k; literals = l }) (omega arith) (omega arith)
 
 -- what enough room says
 parts : (c : System) (capacity : Capacity) (places : ℕ) → enough capacity c places ≡ true

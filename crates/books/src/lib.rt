@@ -6,5 +6,5 @@ mod loads;
 mod rules;
 
 pub use entry::{Entry, Kind};
-pub use loads::{MOST_PLACES, check_room, load_book, load_start};
+pub use loads::{MOST_PLACES, check_room, check_spelled_room, load_book, load_start};
 pub use rules::check_entries;

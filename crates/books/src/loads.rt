@@ -2,12 +2,17 @@
 ghost use Rattle.std.specs.Prelude.{◌≡◌, ◌≤◌, [], is_ok, if◌then◌else◌};
 ghost use Rattle.solver.specs.Answers.{need_of, spare};
 ghost use Rattle.faults.specs.Firsts.{unless};
+ghost use Rattle.faults.specs.Refusals.{count_place};
+ghost use Rattle.system.specs.Systems.{System};
+ghost use Rattle.layout.specs.Reading.{field};
+ghost use Rattle.layout.specs.Spelling.{spell, Admitted};
 ghost use Rattle.books.specs.Books.{book_loaded, room_for, room_fault};
 
 use crate::entry::Entry;
 use cases::Case;
 use faults::{ListName, WorkFault};
-use loading::{add_all, load_case, need};
+use layout::{HEADER, read_field};
+use loading::{add_all, load_case};
 use solver::{Capacity, NoCapacity, Solver};
 
 // How many places a book has at most.
@@ -18,31 +23,52 @@ pub const MOST_PLACES: usize = 8192;
 pub fn check_room<S: Solver>(solver: &S, case: &Case, places: usize) -> Result<(), WorkFault>
     ensures { result ≡ unless (room_fault (S.Solver.capacity solver.now) case.now places) tt }
 {
+    check_spelled_room(solver, case.bytes(), places)
+}
+
+// The same of the case that the bytes spell.
+pub fn check_spelled_room<S: Solver>(
+    solver: &S,
+    bytes: &[u8],
+    places: usize,
+) -> Result<(), WorkFault>
+    ensures { (c : System) → Admitted c → bytes.now ≡ spell c → result ≡ unless (room_fault (S.Solver.capacity solver.now) c places) tt }
+{
     if places > MOST_PLACES {
         return Err(WorkFault::TooManyPlaces);
     }
-    let need = room_for(case, places);
+    let need = room_for(bytes, places);
     if need.clauses > solver.clause_capacity() || need.literals > solver.literal_capacity() {
         return Err(WorkFault::NoCapacity);
     }
     Ok(())
 }
 
-// The room for a case, so many places, one clause more and 512 candidates.
-fn room_for(case: &Case, places: usize) -> Capacity
+// The room for the case that the bytes spell, so many places, one clause more and 512 candidates. Behind the header each
+// clause has a length byte, and every other byte is a literal.
+fn room_for(bytes: &[u8], places: usize) -> Capacity
     requires { places ≤ 8192 }
-    ensures { result ≡ room_for case.now places }
+    ensures { (c : System) → Admitted c → bytes.now ≡ spell c → result ≡ room_for c places }
 {
-    let start = need(case.list(ListName::Start));
-    let step = need(case.list(ListName::Step));
-    let safety = need(case.list(ListName::Safety));
+    let start = count(bytes, ListName::Start);
+    let step = count(bytes, ListName::Step);
+    let safety = count(bytes, ListName::Safety);
+    let clauses = start + step + safety;
+    let literals = bytes.len().saturating_sub(HEADER + clauses);
     let more = places + 513;
-    // stays a cast: there are at most 32 relays
-    let relays = case.relays() as usize;
+    // stays a cast, here and below: no From leads from a u32 to a usize
+    let relays = read_field(bytes, 0) as usize;
     Capacity {
-        clauses: start.clauses + step.clauses + safety.clauses + more,
-        literals: start.literals + step.literals + safety.literals + relays * more,
+        clauses: clauses + more,
+        literals: literals + relays * more,
     }
+}
+
+// How many clauses the header gives a list.
+fn count(bytes: &[u8], list: ListName) -> usize
+    ensures { result ≡ field bytes.now (count_place list) }
+{
+    read_field(bytes, list.count_place()) as usize
 }
 
 // Has the solver hold just the start clauses of a case, or nothing where these do not all fit.

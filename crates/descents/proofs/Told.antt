@@ -1,5 +1,5 @@
 -- What a descent comes to, carried from what a solver holds to the system. Assumes nothing.
-use Rattle.std.proofs.Common.{◌≡◌, ℕ, ◌↔◌, ◌⊎◌, true, refl, List, [], length, Ok, Err, Option, Result, Some, None, sym, ap, ◌∙◌, subst, inl, inr}
+use Rattle.std.proofs.Common.{◌≡◌, ℕ, ◌⊎◌, true, refl, List, [], length, Ok, Err, Option, Result, Some, None, sym, ap, ◌∙◌, subst, inl, inr}
 use Rattle.system.specs.Literals.{bit, clause, clauses}
 use Rattle.system.specs.Systems.{System, Consecution}
 use Rattle.system.specs.Preserving.{loaded, met}
@@ -13,18 +13,12 @@ use Rattle.faults.proofs.Firsts.{unless_ok}
 use Rattle.faults.specs.declared.work.WorkFault.{WorkFault}
 use Rattle.layout.specs.Reading.{accepted, case_fault, read_case, system_in}
 use Rattle.layout.proofs.Law.{none_accepted}
-use Rattle.cases.specs.Meaning.{Read}
 use Rattle.clauses.specs.Candidates.{read_candidates}
 use Rattle.sieve.specs.Marks.{Largest}
 use Rattle.literal_sieve.specs.Literal.{AtState, ClauseClosed, ClosedIsConsecution, false_at, need}
 use Rattle.candidate_sieve.specs.Candidates.{chosen, TogetherClosed}
 use Rattle.candidate_sieve.specs.Read.{TogetherIsConsecution}
 use Rattle.descents.specs.Outcomes.{room, descent_fault, DescentTold, literal_fault, listed_fault, candidate_fault, LiteralsTold, CandidatesTold}
-
--- a case that was read is the system that its bytes spell
-pub read_ok : (bytes : List ℕ) (c : System) → Read bytes (Ok c) → read_case bytes ≡ Ok c
-read_ok bytes c (inl e) = sym e
-read_ok bytes c (inr p) = cc p.0
 
 -- bytes that were read as a system have no fault
 read_accepted : (bytes : List ℕ) (c : System) → read_case bytes ≡ Ok c → accepted bytes ≡ true

@@ -1,5 +1,5 @@
 -- What judging promises follows from the turns that it takes. Assumes nothing.
-use Rattle.std.proofs.Common.{true≢false, is_some, ◌≡◌, ℕ, ◌+◌, ◌^◌, ◌<◌, not, T, List, [], ◌∷◌, length, get_or, take, Some, None, Ok, Err, Option, sym, refl, ap, subst, ◌∙◌, inl, inr, arith, w8, Fits, nat_eq}
+use Rattle.std.proofs.Common.{◌≡◌, ℕ, ◌+◌, ◌^◌, ◌<◌, not, T, List, [], ◌∷◌, length, get_or, take, Some, None, Ok, Err, Option, sym, refl, ap, subst, ◌∙◌, inl, inr, arith, w8, Fits, nat_eq}
 use Rattle.std.proofs.lemmas.Bool.{eq-eqb, cases_lt}
 use Rattle.std.proofs.lemmas.List.{length-append, length-take-le, length-drop}
 use Rattle.system.specs.Systems.{System}
@@ -7,6 +7,7 @@ use Rattle.system.proofs.Truth.{T_true}
 use Rattle.solver.specs.declared.capacity.Capacity.{Capacity}
 use Rattle.faults.specs.Firsts.{unmet}
 use Rattle.faults.proofs.Firsts.{or_none, none_first, none_unmet, unmet_none}
+use Rattle.faults.specs.declared.case.CaseFault.TheVariants.{NoMemory}
 use Rattle.faults.specs.declared.work.WorkFault.{WorkFault}
 use Rattle.faults.specs.declared.work.WorkFault.TheVariants.{InCase, Decided, BookSize, NoPlace, NoCapacity}
 use Rattle.layout.specs.Spelling.{spell, Admitted}
@@ -14,7 +15,7 @@ use Rattle.books.specs.declared.entry.Entry.{Entry}
 use Rattle.books.specs.Books.{rules_fault, enough, room_fault}
 use Rattle.histories.specs.declared.verdict.Verdict.{Verdict}
 use Rattle.histories.specs.declared.verdict.Verdict.TheVariants.{Undecided, BrokenAt}
-use Rattle.histories.specs.Calls.{Progress, Stage, entries, decided, checked, written, storing, wiped, fresh, Opened, open_refused, open_broken, open_sound, OpenedFrom, open_unread, open_read, Learned, Turned, turn_refused, turn_holds, turn_full, turn_stores}
+use Rattle.histories.specs.Calls.{Progress, Stage, entries, decided, checked, written, storing, wiped, fresh, Opened, open_refused, open_broken, open_sound, OpenedFrom, open_unread, open_scarce, open_read, Learned, Turned, turn_refused, turn_holds, turn_full, turn_stores}
 use Rattle.histories.specs.Histories.{kept, Lived, turns}
 use Rattle.histories.specs.Laws.{Lawful, taken_count, ReadsRun}
 use Rattle.histories.specs.Promises.{Turns, turns_none, turns_more, Ended, Judging, JudgingPromises}
@@ -22,10 +23,7 @@ use Rattle.histories.proofs.Standing.{kept_sized, kept_stored}
 use Rattle.histories.proofs.Lawful.{lawful}
 use Rattle.histories.proofs.ReadOut.{reads}
 use Rattle.histories.proofs.Ending.{decides, taken_append, learned_excludes}
-use Rattle.histories.proofs.Promised.{err_ok, opened_system, opening_promises}
-
-some_none : {A : Type 0} (x : A) → Some x ≡ None → ⊥
-some_none x e = true≢false (ap is_some e)
+use Rattle.histories.proofs.Promised.{some_none, err_ok, opened_system, opening_promises}
 
 -- what stands after an opening with all places of a book, and accepted turns
 record Judgeable (capacity : Capacity) (c : System) (places k : ℕ) (x : Stage) : Type 0 where
@@ -177,6 +175,7 @@ judging_promises capacity bs small book held f y j = go j.opening
   where
     go : OpenedFrom capacity bs (length book) held (Ok j.opened) j.after → JudgingPromises bs f y.work y.book
     go (open_unread g a e h) = absurd (err_ok (Ok j.opened) (InCase g) j.opened e refl)
+    go (open_scarce c a n e h) = absurd (err_ok (Ok j.opened) (InCase NoMemory) j.opened e refl)
     go (open_read c a o) =
         let op = opening_promises capacity bs small (length book) held j.after (Ok j.opened) (open_read c a o) in
         let said = op.spelled j.opened refl in

@@ -1,5 +1,5 @@
 -- What each call promises follows from what it does. Assumes nothing.
-use Rattle.std.proofs.Common.{true≢false, is_ok, ◌≡◌, ℕ, ◌+◌, not, List, [], ◌∷◌, length, get_or, take, Ok, Err, Result, sym, refl, ap, subst, subst₂, ◌∙◌, nat_eq, nat_lt, w8, Fits}
+use Rattle.std.proofs.Common.{true≢false, is_ok, is_some, ◌≡◌, ℕ, ◌+◌, not, List, [], ◌∷◌, length, get_or, take, Some, None, Ok, Err, Result, sym, refl, ap, subst, subst₂, ◌∙◌, nat_eq, nat_lt, w8, Fits}
 use Rattle.system.specs.Literals.{Member}
 use Rattle.system.specs.Systems.{System}
 use Rattle.solver.specs.declared.capacity.Capacity.{Capacity}
@@ -11,13 +11,13 @@ use Rattle.faults.specs.declared.work.WorkFault.TheVariants.{InCase, BookSize, A
 use Rattle.faults.specs.declared.case.CaseFault.TheVariants.{NoMemory}
 use Rattle.layout.specs.Spelling.{spell, Admitted}
 use Rattle.clauses.specs.Candidates.{read_candidates}
-use Rattle.cases.specs.Meaning.{Read}
-use Rattle.cases.proofs.Promises.{read_law}
+use Rattle.layout.specs.Reading.{read_case}
+use Rattle.layout.proofs.Law.{read_as_spelled}
 use Rattle.books.specs.declared.entry.Entry.{Entry}
 use Rattle.books.specs.Entries.{blank}
 use Rattle.books.proofs.Entries.{at_member}
 use Rattle.histories.specs.declared.verdict.Verdict.TheVariants.{Undecided, BrokenAt}
-use Rattle.histories.specs.Calls.{Progress, Stage, fresh, Opened, open_refused, open_broken, open_sound, OpenedFrom, open_unread, open_read, Turned, Took}
+use Rattle.histories.specs.Calls.{Progress, Stage, fresh, Opened, open_refused, open_broken, open_sound, OpenedFrom, open_unread, open_scarce, open_read, Turned, Took}
 use Rattle.histories.specs.Histories.{counted, kept, Lived, opens, turns, takes}
 use Rattle.histories.specs.Reads.{stray, read_fault, entry_at}
 use Rattle.books.specs.Books.{rules_fault}
@@ -27,6 +27,10 @@ use Rattle.histories.proofs.Lawful.{lawful}
 use Rattle.histories.proofs.ReadOut.{reads}
 use Rattle.histories.proofs.Ending.{decides}
 use Rattle.histories.proofs.Stored.{turn_learns, taking_largest}
+
+-- what is there is not wanting
+pub some_none : {A : Type 0} (x : A) → Some x ≡ None → ⊥
+some_none x e = true≢false (ap is_some e)
 
 -- what is refused is not accepted
 pub err_ok : {A F : Type 0} (r : Result A F) (f : F) (x : A) → r ≡ Err f → r ≡ Ok x → ⊥
@@ -42,14 +46,19 @@ opened_system capacity c places held after r w (open_broken a s i b e h) q = ok_
 opened_system capacity c places held after r w (open_sound a n e h) q = ok_system r (fresh c places Undecided) w e q
 
 module _ (capacity : Capacity) (bs : List ℕ) (small : (i : ℕ) → Fits w8 (get_or bs i 0)) (places : ℕ) (held after : List (List ℕ)) (r : Result Progress WorkFault) where
-  spelled : (c : System) → Read bs (Ok c) → Admitted c × (bs ≡ spell c)
-  spelled c h = (read_law bs small (Ok c) h (λ e. err_ok (Ok c) NoMemory c e refl) c).0 refl
+  spelled : (c : System) → read_case bs ≡ Ok c → Admitted c × (bs ≡ spell c)
+  spelled c h = (read_as_spelled bs small c).0 h
 
   pub opening_promises : OpenedFrom capacity bs places held r after → OpeningPromises bs r
   opening_promises (open_unread f a e h) = record {
     spelled = λ w q. absurd (err_ok r (InCase f) w e q);
     lived = λ w q. absurd (err_ok r (InCase f) w e q);
     lawful = λ w q. absurd (err_ok r (InCase f) w e q);
+  }
+  opening_promises (open_scarce c a n e h) = record {
+    spelled = λ w q. absurd (err_ok r (InCase NoMemory) w e q);
+    lived = λ w q. absurd (err_ok r (InCase NoMemory) w e q);
+    lawful = λ w q. absurd (err_ok r (InCase NoMemory) w e q);
   }
   opening_promises (open_read c a o) = record { spelled = said; lived = begins; lawful = λ w q. lawful w.system 0 w [] (begins w q) }
     where

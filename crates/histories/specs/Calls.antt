@@ -5,9 +5,10 @@ use Rattle.system.specs.Systems.{System, Initial, Broken}
 use Rattle.solver.specs.declared.capacity.Capacity.{Capacity}
 use Rattle.faults.specs.Firsts.{unmet, first_of}
 use Rattle.faults.specs.declared.case.CaseFault.{CaseFault}
+use Rattle.faults.specs.declared.case.CaseFault.TheVariants.{NoMemory}
 use Rattle.faults.specs.declared.work.WorkFault.{WorkFault}
 use Rattle.faults.specs.declared.work.WorkFault.TheVariants.{InCase, Decided, BookSize, NoPlace, NoCapacity}
-use Rattle.cases.specs.Meaning.{Read}
+use Rattle.layout.specs.Reading.{read_case}
 use Rattle.books.specs.declared.entry.Entry.{Entry}
 use Rattle.books.specs.Entries.{subgoal}
 use Rattle.books.specs.Books.{rules_fault, book_loaded, enough, room_fault}
@@ -90,10 +91,12 @@ pub data Opened (capacity : Capacity) (c : System) (places : ℕ) (held : List (
       → ((s : ℕ) → Initial c s → Broken c s → ⊥)
       → r ≡ Ok (fresh c places Undecided) → after ≡ [] → Opened capacity c places held r after
 
--- opening bytes: what reading them refuses, and then what opening their system gives
+-- opening bytes: their first fault, or what opening their system gives; want of memory only where nothing is refused
 pub data OpenedFrom (capacity : Capacity) (bs : List ℕ) (places : ℕ) (held : List (List ℕ)) (r : Result Progress WorkFault) (after : List (List ℕ)) : Type 0 where
-  open_unread : (f : CaseFault) → Read bs (Err f) → r ≡ Err (InCase f) → after ≡ held → OpenedFrom capacity bs places held r after
-  open_read : (c : System) → Read bs (Ok c) → Opened capacity c places held r after → OpenedFrom capacity bs places held r after
+  open_unread : (f : CaseFault) → read_case bs ≡ Err f → r ≡ Err (InCase f) → after ≡ held → OpenedFrom capacity bs places held r after
+  open_scarce : (c : System) → read_case bs ≡ Ok c → room_fault capacity c places ≡ None
+      → r ≡ Err (InCase NoMemory) → after ≡ held → OpenedFrom capacity bs places held r after
+  open_read : (c : System) → read_case bs ≡ Ok c → Opened capacity c places held r after → OpenedFrom capacity bs places held r after
 
 -- a subgoal decides exactly where its state is initial
 abbrev pub SubgoalVerdict : System → ℕ → Verdict → Type 0

@@ -1,29 +1,25 @@
 -- What a judging comes to: how many turns were accepted, what is told of it, and that nothing else is refused. Assumes nothing.
-use Rattle.std.proofs.Common.{true≢false, is_some, ◌≡◌, ℕ, ◌+◌, ◌*◌, ◌<◌, ◌≤◌, true, not, T, List, [], length, get_or, take, Some, None, Ok, Err, Option, sym, refl, ap, ◌∙◌, subst, subst₂, inl, inr, arith, nat_le, w8, Fits}
-use Rattle.std.proofs.lemmas.Bool.{and_from, le-leb, lt-leb}
-use Rattle.system.specs.Literals.{size}
+use Rattle.std.proofs.Common.{◌≡◌, ℕ, ◌+◌, ◌<◌, ◌≤◌, true, not, T, List, [], length, get_or, take, Some, None, Ok, Err, Option, sym, refl, ap, ◌∙◌, subst, subst₂, inl, inr, arith, nat_le, w8, Fits}
+use Rattle.std.proofs.lemmas.Bool.{le-leb, lt-leb}
 use Rattle.system.specs.Systems.{System}
 use Rattle.solver.specs.declared.capacity.Capacity.{Capacity}
-use Rattle.faults.specs.Firsts.{unmet, or_else}
+use Rattle.faults.specs.Firsts.{unmet}
 use Rattle.faults.proofs.Firsts.{or_none, unmet_none, none_unmet}
 use Rattle.faults.specs.declared.case.CaseFault.{CaseFault}
 use Rattle.faults.specs.declared.case.CaseFault.TheVariants.{NoMemory}
 use Rattle.faults.specs.declared.work.WorkFault.{WorkFault}
-use Rattle.faults.specs.declared.work.WorkFault.TheVariants.{InCase, TooManyPlaces, Decided, NoCapacity, NoPlace}
-use Rattle.layout.specs.Spelling.{Admitted}
+use Rattle.faults.specs.declared.work.WorkFault.TheVariants.{InCase, TooManyPlaces, Decided, NoPlace}
 use Rattle.layout.specs.Reading.{case_fault, system_in, read_case}
 use Rattle.layout.proofs.Law.{read_as_spelled, none_read, fault_read}
-use Rattle.cases.specs.Meaning.{Read}
 use Rattle.books.specs.declared.entry.Entry.{Entry}
-use Rattle.books.specs.Books.{room_fault}
-use Rattle.books.proofs.Rooms.{short_room}
+use Rattle.books.proofs.Rooms.{room_enough}
 use Rattle.histories.specs.declared.verdict.Verdict.{Verdict}
 use Rattle.histories.specs.declared.verdict.Verdict.TheVariants.{Undecided, Holds, BrokenAt, BrokenByEntry}
-use Rattle.histories.specs.Calls.{Progress, Stage, decided, fresh, open_refused, open_broken, open_sound, OpenedFrom, open_unread, open_read, Learned, learned_clause, learned_subgoal, Turned, turn_refused, turn_holds, turn_full, turn_stores}
+use Rattle.histories.specs.Calls.{Progress, Stage, decided, fresh, open_refused, open_broken, open_sound, OpenedFrom, open_unread, open_scarce, open_read, Learned, learned_clause, learned_subgoal, Turned, turn_refused, turn_holds, turn_full, turn_stores}
 use Rattle.histories.specs.Laws.{Concluded}
 use Rattle.histories.specs.Reads.{read_out}
 use Rattle.histories.specs.Promises.{Turns, turns_none, turns_more, Ended, Judging, JudgingPromises}
-use Rattle.histories.proofs.Promised.{err_ok}
+use Rattle.histories.proofs.Promised.{some_none, err_ok}
 use Rattle.judgements.specs.declared.told.JudgeTold.{JudgeTold}
 use Rattle.judgements.specs.Outcomes.{room, verdict_number, storeless, Right, right_undecided, right_holds, right_broken, Judgement, judge_fault}
 
@@ -79,6 +75,7 @@ record Fresh (places : ℕ) (w : Progress) : Type 0 where
 
 opened_fresh : (capacity : Capacity) (bs : List ℕ) (places : ℕ) (held after : List (List ℕ)) (w : Progress) → OpenedFrom capacity bs places held (Ok w) after → Fresh places w
 opened_fresh capacity bs places held after w (open_unread f a e h) = absurd (err_ok (Ok w) (InCase f) w e refl)
+opened_fresh capacity bs places held after w (open_scarce c read n e h) = absurd (err_ok (Ok w) (InCase NoMemory) w e refl)
 opened_fresh capacity bs places held after w (open_read c read (open_refused f a e h)) = absurd (err_ok (Ok w) f w e refl)
 opened_fresh capacity bs places held after w (open_read c read (open_broken a s i b e h)) =
     let same : w ≡ fresh c places (BrokenAt s) = cc in subst (Fresh places) (sym same) (record { places_same = refl; none_used = omega arith })
@@ -128,20 +125,6 @@ module _ (bs : List ℕ) (book : List Entry) (f : Option WorkFault) (y : Stage) 
       used = used;
     }
 
-some_none : {A : Type 0} (x : A) → Some x ≡ None → ⊥
-some_none x e = true≢false (ap is_some e)
-
-both_none : {F : Type 0} (o p : Option F) → o ≡ None → p ≡ None → or_else o p ≡ None
-both_none o p a b = grind arith
-
--- the solver has room for any case and book
-room_enough : (c : System) → Admitted c → (places : ℕ) → places ≤ 8192 → room_fault room c places ≡ None
-room_enough c a places h =
-    let few = a.few in
-    let short = short_room c a places h in
-    let fits = and_from _ _ (le-leb (0 + (length c.start + length c.step + length c.safety + places + 513)) 10241 (omega arith)) (le-leb (0 + (size c.start + size c.step + size c.safety + c.n * (places + 513))) 311328 (omega arith)) in
-    both_none _ _ (none_unmet (nat_le places 8192) TooManyPlaces (le-leb places 8192 h)) (none_unmet _ NoCapacity fits)
-
 -- what is refused, by its first fault
 pub case_refused : (bs : List ℕ) (places : ℕ) (f : CaseFault) → case_fault bs ≡ Some f → judge_fault (read_case bs) places ≡ Some (InCase f)
 case_refused bs places f e = ap (λ r. judge_fault r places) (fault_read bs f e)
@@ -158,13 +141,10 @@ none_refused bs places e h = accepted_fault bs places e ∙ none_unmet (nat_le p
 -- where nothing is refused, an opening fails only for want of memory
 only_memory : (bs : List ℕ) → ((i : ℕ) → Fits w8 (get_or bs i 0)) → (places : ℕ) → case_fault bs ≡ None → places ≤ 8192
     → (held after : List (List ℕ)) (f : WorkFault) → OpenedFrom room bs places held (Err f) after → f ≡ InCase NoMemory
-only_memory bs small places e h held after f (open_unread g (inl same) r kept) = absurd (err_ok (Err g) g (system_in bs) refl (same ∙ none_read bs e))
-only_memory bs small places e h held after f (open_unread g (inr p) r kept) = let none = p.0 in cc
-only_memory bs small places e h held after f (open_read c read (open_refused g a r kept)) = absurd (lost read)
-  where
-    lost : Read bs (Ok c) → ⊥
-    lost (inl same) = some_none g (sym a ∙ room_enough c ((read_as_spelled bs small c).0 (sym same)).0 places h)
-    lost (inr p) = err_ok (Ok c) NoMemory c p.0 refl
+only_memory bs small places e h held after f (open_unread g read r kept) = absurd (err_ok (read_case bs) g (system_in bs) read (none_read bs e))
+only_memory bs small places e h held after f (open_scarce c read n r kept) = cc
+only_memory bs small places e h held after f (open_read c read (open_refused g a r kept)) =
+    absurd (some_none g (sym a ∙ room_enough c ((read_as_spelled bs small c).0 read).0 room places h (omega arith) (omega arith)))
 only_memory bs small places e h held after f (open_read c read (open_broken a s i b r kept)) = absurd (err_ok (Err f) f (fresh c places (BrokenAt s)) refl r)
 only_memory bs small places e h held after f (open_read c read (open_sound a n r kept)) = absurd (err_ok (Err f) f (fresh c places Undecided) refl r)
 

@@ -5,3 +5,4 @@ mod Storing
 mod Taken
 mod Turning
 mod Ended
+mod Opened

@@ -7,17 +7,18 @@ ghost use Rattle.histories.specs.Promises.{OpeningPromises};
 
 use crate::account::Account;
 use crate::work::Work;
-use books::{check_room, load_start};
+use books::{check_spelled_room, load_start};
 use cases::Case;
 use faults::{ListName, WorkFault};
 use histories::Verdict;
+use layout::check_case;
 use questions::initial_against;
 use solver::Solver;
 use std::alloc::Global;
 
 // Opens a work on the case that the bytes spell, with a book of so many places. Refused is what reading the case refuses, then
-// too many places, then a solver with too little room. Where an initial state is broken the work is opened with that verdict.
-// The solver then holds nothing, and where it is refused what it held.
+// too many places, then a solver with too little room; memory for the case is asked for where nothing is refused. Where an initial
+// state is broken the work is opened with that verdict. The solver then holds nothing, and where it is refused what it held.
 pub fn open<S: Solver>(
     heap: Global,
     bytes: &[u8],
@@ -28,8 +29,9 @@ pub fn open<S: Solver>(
     ensures promises { OpeningPromises bytes.now result }
     ensures capacity { S.Solver.capacity solver.new ≡ S.Solver.capacity solver.old }
 {
+    check_case(bytes)?;
+    check_spelled_room(solver, bytes, places)?;
     let case = Case::read(heap, bytes)?;
-    check_room(solver, &case, places)?;
     let verdict = match broken_at_start(solver, &case) {
         Some(state) => Verdict::BrokenAt(state),
         None => Verdict::Undecided,

@@ -1,5 +1,6 @@
 use Rattle.std.proofs.Common.{sym}
-use Rattle.descents.proofs.Told.{read_ok, candidates_told}
+use Rattle.cases.proofs.Promises.{read_ok}
+use Rattle.descents.proofs.Told.{candidates_told}
 use Rattle.descents.proofs.calls.candidate_descent.Goals as goal
 
 pub returns-clause-told : goal.returns-clause-told

@@ -1,4 +1,5 @@
-use Rattle.descents.proofs.Told.{read_ok, literals_told}
+use Rattle.cases.proofs.Promises.{read_ok}
+use Rattle.descents.proofs.Told.{literals_told}
 use Rattle.descents.proofs.calls.literal_descent.Goals as goal
 
 pub returns-clause-told : goal.returns-clause-told
