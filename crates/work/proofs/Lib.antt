@@ -5,4 +5,5 @@ mod Storing
 mod Taken
 mod Turning
 mod Ended
+mod Checked
 mod Opened

@@ -1,25 +1,24 @@
 -- What a taking does, from what its parts did. Assumes nothing.
-use Rattle.std.proofs.Common.{◌≡◌, ℕ, ◌+◌, ◌-◌, ◌<◌, ◌≤◌, not, List, [], ◌∷◌, length, map, take, None, Ok, Err, Result, sym, refl, ap, ◌∙◌, subst, arith, nat_eq}
-use Rattle.std.proofs.lemmas.List.{length-take-le, length-map}
+use Rattle.std.proofs.Common.{◌≡◌, ℕ, ◌+◌, ◌-◌, ◌<◌, ◌≤◌, List, [], length, map, take, None, Ok, Err, Result, sym, refl, ap, ◌∙◌, subst, arith}
+use Rattle.std.proofs.lemmas.List.{length-map}
 use Rattle.solver.specs.declared.capacity.Capacity.{Capacity}
 use Rattle.std.specs.Result.{IsErrAnd}
 use Rattle.std.proofs.lemmas.Result.{err_from_is_err_and}
 use Rattle.faults.specs.declared.work.WorkFault.{WorkFault}
-use Rattle.faults.specs.Firsts.{unmet, unless}
-use Rattle.faults.specs.declared.work.WorkFault.TheVariants.{NoPlace, Decided, BookSize, NoCapacity}
-use Rattle.faults.proofs.Firsts.{first_none, unmet_none, unless_err}
+use Rattle.faults.specs.Firsts.{unless}
+use Rattle.faults.specs.declared.work.WorkFault.TheVariants.{NoPlace}
+use Rattle.faults.proofs.Firsts.{unless_err}
 use Rattle.clauses.specs.Candidates.{read_candidates, CandidateList}
 use Rattle.clauses.proofs.CandidateLaw.{candidates_as_spelled}
 use Rattle.candidate_sieve.specs.Candidates.{chosen}
 use Rattle.books.specs.declared.entry.Entry.{Entry}
 use Rattle.books.specs.declared.entry.Kind.TheVariants.{Taken}
 use Rattle.books.specs.Entries.{entry_of}
-use Rattle.books.specs.Books.{rules_fault, enough, Ready}
-use Rattle.books.proofs.Rooms.{enough_fewer}
+use Rattle.books.specs.Books.{Ready}
 use Rattle.taking.specs.Taking.{Sieved, taken_entries}
 use Rattle.histories.specs.declared.verdict.Verdict.TheVariants.{Undecided}
-use Rattle.histories.specs.Calls.{Progress, Stage, decided, entries, checked, written, Took, take_refused, take_unread, take_full, take_stores}
-use Rattle.histories.proofs.Standing.{checked_open}
+use Rattle.histories.specs.Calls.{Progress, Stage, entries, checked, written, Took, take_refused, take_unread, take_full, take_stores}
+use Rattle.work.proofs.Checked.{checked_ready}
 use Rattle.work.proofs.Storing.{chosen_take}
 
 -- candidates that were read are a list of candidates
@@ -49,23 +48,11 @@ module _ (capacity : Capacity) (x : Stage) (h : checked capacity x ≡ None) (v 
   seen_places : v.places ≡ x.work.places
   seen_places = ap (λ (w : Progress). w.places) same
 
-  -- what the checks say of the book
-  checked_ready : v.places ≤ 8192 → Ready x.work.system (entries x) capacity
-  checked_ready few =
-      let p = first_none (unmet (not (decided x.work.verdict)) Decided ∷ unmet (nat_eq (length x.book) x.work.places) BookSize ∷ rules_fault x.work.system (entries x) ∷ unmet (enough capacity x.work.system x.work.places) NoCapacity ∷ []) h in
-      let size = (checked_open capacity x h).1 in
-      let fits : x.work.used ≤ x.work.places = omega (arith, seen_used, seen_places) in
-      let long = length-take-le x.work.used x.book (omega arith) in
-      record {
-        ruled = p.1.1.0;
-        room = enough_fewer x.work.system capacity (length (entries x)) x.work.places (omega arith) (unmet_none _ _ p.1.1.1.0);
-      }
-
-  pub handed_sieved : v.places ≤ 8192 → (ds : List (List ℕ)) (M : List ℕ) → CandidateList x.work.system.n ds
+  pub handed_sieved : (ds : List (List ℕ)) (M : List ℕ) → CandidateList x.work.system.n ds
       → (Ready v.system (take v.used x.book) capacity → CandidateList v.system.n ds → Sieved v.system (take v.used x.book) ds M) → Sieved x.work.system (entries x) ds M
-  handed_sieved few ds M list f =
+  handed_sieved ds M list f =
       subst (λ (w : Progress). Sieved w.system (take w.used x.book) ds M) same
-      (f (subst (λ (w : Progress). Ready w.system (take w.used x.book) capacity) (sym same) (checked_ready few)) (subst (λ (w : Progress). CandidateList w.system.n ds) (sym same) list))
+      (f (subst (λ (w : Progress). Ready w.system (take w.used x.book) capacity) (sym same) (checked_ready capacity x h (omega (arith, seen_used, seen_places)))) (subst (λ (w : Progress). CandidateList w.system.n ds) (sym same) list))
 
   -- the marked ones of the candidates ds, which are the clauses cs of a list
   module _ (cs ds : List (List ℕ)) (marks : List ℕ) (listed : cs ≡ ds) (sieved : Sieved x.work.system (entries x) ds (take (length ds) marks)) where

@@ -1,5 +1,5 @@
--- A state of the run of a broken work, told by its number. Assumes nothing.
-use Rattle.std.proofs.Common.{◌≡◌, ℕ, zero, suc, true, false, List, [], ◌∷◌, length, take, Ok, Option, Result, refl, ap, ◌∙◌, inl, inr, arith, nat_eq, slice_get}
+-- An entry, and a state of the run of a broken work, told by its number. Assumes nothing.
+use Rattle.std.proofs.Common.{◌≡◌, ℕ, zero, suc, true, false, List, [], ◌∷◌, length, take, Ok, Option, Result, sym, refl, ap, subst, ◌∙◌, inl, inr, arith, nat_eq, slice_get}
 use Rattle.std.specs.Bool.{then_some}
 use Rattle.std.specs.Option.{ok_or}
 use Rattle.std.proofs.lemmas.Bool.{cases_lt, lt-ltb, le-ltb}
@@ -13,7 +13,13 @@ use Rattle.books.specs.Targets.{run_of}
 use Rattle.histories.specs.declared.verdict.Verdict.TheVariants.{BrokenAt, BrokenByEntry}
 use Rattle.histories.specs.Calls.{Progress}
 use Rattle.histories.specs.Histories.{is_broken}
-use Rattle.histories.specs.Reads.{read_fault, run_read, state_at}
+use Rattle.histories.specs.Reads.{read_fault, run_read, entry_at, state_at}
+use Rattle.histories.specs.Promises.{EntryPromises}
+use Rattle.histories.proofs.Promised.{entry_promises}
+
+-- an entry told of a work as it is seen
+pub entry_told : {v w : Progress} → v ≡ w → (book : List Entry) (j : ℕ) (r : Result Entry WorkFault) → r ≡ entry_at v book j → EntryPromises w book r
+entry_told {w = w} same book j r e = subst (EntryPromises w book) (sym (subst (λ w. r ≡ entry_at w book j) same e)) (entry_promises w book j)
 
 module _ (w : Progress) (book : List Entry) (j : ℕ) (u : Unit {0}) (readable : Ok u ≡ unless (read_fault w book) tt) (r : Result ℕ WorkFault) (state : Option ℕ) (told : r ≡ ok_or state (NoSuchState j)) where
   -- where the run that is read out has the state

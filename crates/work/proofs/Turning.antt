@@ -1,22 +1,21 @@
 -- What a turn comes to after its checks. Assumes nothing.
-use Rattle.std.proofs.Common.{◌≡◌, ℕ, ◌+◌, ◌≤◌, true, List, [], ◌∷◌, length, take, None, Ok, Err, Result, is_ok, if◌then◌else◌, sym, refl, ap, ◌∙◌, subst, arith, nat_eq, not}
-use Rattle.std.proofs.lemmas.Bool.{eqb-true}
+use Rattle.std.proofs.Common.{◌≡◌, ℕ, ◌+◌, ◌≤◌, true, List, [], ◌∷◌, length, take, None, Ok, Err, Result, is_ok, if◌then◌else◌, sym, refl, ap, ◌∙◌, subst, arith}
 use Rattle.std.proofs.lemmas.List.{length-take-le}
 use Rattle.system.specs.Systems.{System}
 use Rattle.solver.specs.Answers.{need_of, spare}
 use Rattle.solver.specs.declared.capacity.Capacity.{Capacity}
 use Rattle.solver.specs.declared.capacity.NoCapacity.{NoCapacity}
-use Rattle.faults.specs.Firsts.{unmet}
 use Rattle.faults.specs.declared.work.WorkFault.{WorkFault}
-use Rattle.faults.specs.declared.work.WorkFault.TheVariants.{Decided, BookSize, NoPlace, NoCapacity as TooSmall}
-use Rattle.faults.proofs.Firsts.{first_none, unmet_none}
+use Rattle.faults.specs.declared.work.WorkFault.TheVariants.{NoPlace}
 use Rattle.books.specs.declared.entry.Entry.{Entry}
-use Rattle.books.specs.Books.{rules_fault, enough, book_loaded, Ready, Holding}
+use Rattle.books.specs.Books.{book_loaded, Ready, Holding}
 use Rattle.books.specs.Targets.{FirstCounterexample, NoCounterexample}
-use Rattle.books.proofs.Rooms.{enough_fewer, loaded_room}
+use Rattle.books.proofs.Rooms.{loaded_room}
 use Rattle.histories.specs.declared.verdict.Verdict.{Verdict}
 use Rattle.histories.specs.declared.verdict.Verdict.TheVariants.{Holds}
-use Rattle.histories.specs.Calls.{Progress, Stage, decided, checked, written, Learned, Turned, turn_holds, turn_full, turn_stores}
+use Rattle.histories.specs.Calls.{Progress, Stage, checked, written, Learned, Turned, turn_holds, turn_full, turn_stores}
+use Rattle.histories.proofs.Standing.{checked_open}
+use Rattle.work.proofs.Checked.{checked_ready}
 
 -- a work after one entry more, with a verdict
 abbrev pub stored_to : Progress → Verdict → Progress
@@ -40,23 +39,16 @@ module _ (capacity : Capacity) (c : System) (places used : ℕ) (v : Verdict) (w
     abbrev es : List Entry
     es = take used book
 
-    size : length book ≡ places
-    size =
-        let passed = first_none (unmet (not (decided v)) Decided ∷ unmet (nat_eq (length book) places) BookSize ∷ rules_fault c es ∷ unmet (enough capacity c places) TooSmall ∷ []) passes in
-        eqb-true _ _ (unmet_none _ BookSize passed.1.0)
-
-    pub ready : Ready c es capacity
-    ready =
-        let passed = first_none (unmet (not (decided v)) Decided ∷ unmet (nat_eq (length book) places) BookSize ∷ rules_fault c es ∷ unmet (enough capacity c places) TooSmall ∷ []) passes in
-        let long = length-take-le used book (omega (arith, size)) in
-        record { ruled = passed.1.1.0; room = enough_fewer c capacity (length es) places (omega arith) (unmet_none _ TooSmall passed.1.1.1.0) }
+    ready : Ready c es capacity
+    ready = checked_ready capacity (with_work (record { system = c; places = places; used = used; verdict = v })) passes within
 
     -- the solver was loaded with case and book
     pub holding_now : (r : Result (Unit {0}) NoCapacity) (after : List (List ℕ)) (room : Capacity) → is_ok r ≡ spare (need_of (book_loaded c es)) [] capacity
         → after ≡ (if is_ok r then book_loaded c es else []) → room ≡ capacity → Holding c es after room × (length es ≤ 65280)
     holding_now r after room test e same =
         let ok : is_ok r ≡ true = test ∙ loaded_room c es ready.ruled capacity ready.room in
-        let long = length-take-le used book (omega (arith, size)) in
+        let size = (checked_open capacity (with_work (record { system = c; places = places; used = used; verdict = v })) passes).1 in
+        let long = length-take-le used book (omega arith) in
         (record { ready = subst (Ready c es) (sym same) ready; loads = e ∙ ap (λ b. if b then book_loaded c es else []) ok }, omega arith)
 
     pub holds_now : (after : List (List ℕ)) → NoCounterexample c es → after ≡ book_loaded c es

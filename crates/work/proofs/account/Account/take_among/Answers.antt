@@ -14,7 +14,7 @@ returns-then-count_marked-self-clause-took g c =
     let ds = c.args.candidates.now in
     let marks = c.choose.new.marks in
     let i = c.self.invariant in
-    let sieved = handed_sieved capacity x c.requires.checked _ c.self.view_is i.0 i.1 ds (take (length ds) marks) c.requires.listed c.choose.ensures.sieved in
+    let sieved = handed_sieved capacity x c.requires.checked _ c.self.view_is i.0 ds (take (length ds) marks) c.requires.listed c.choose.ensures.sieved in
     took_full capacity x c.requires.checked _ c.self.view_is i.0 (clauses_of c.candidates-list.result) ds marks c.candidates-list.ensures sieved
     (g.S.Solver.held c.choose.new.solver) c.choose.ensures.held (rw (← c.count_marked.ensures) c.if-count_marked-self.true)
 
@@ -25,7 +25,7 @@ returns-clause-took g c =
     let ds = c.args.candidates.now in
     let marks = c.choose.new.marks in
     let i = c.self.invariant in
-    let sieved = handed_sieved capacity x c.requires.checked _ c.self.view_is i.0 i.1 ds (take (length ds) marks) c.requires.listed c.choose.ensures.sieved in
+    let sieved = handed_sieved capacity x c.requires.checked _ c.self.view_is i.0 ds (take (length ds) marks) c.requires.listed c.choose.ensures.sieved in
     took_stored capacity x c.requires.checked _ c.self.view_is i.0 (clauses_of c.candidates-list.result) ds marks c.candidates-list.ensures sieved
     c.store_marked.new.self c.store_marked.new.book (g.S.Solver.held c.choose.new.solver)
     (rw (← c.count_marked.ensures) c.if-count_marked-self.false) c.store_marked.ensures.work c.store_marked.ensures.book c.choose.ensures.held
