@@ -105,4 +105,4 @@ module _ (capacity : Capacity) (x : Stage) (read : Result (List (List ℕ)) Work
       (e ∙ sym i, g ∙ ap (λ new. storing x new Undecided) (same_taken ds fs M N k m sv sw) ∙ sym j)
 
 pub taking_determined : TakingDetermined
-taking_determined = took_only
+taking_determined capacity x read r y t q z u = took_only capacity x read q r z y u t

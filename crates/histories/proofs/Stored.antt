@@ -19,6 +19,7 @@ use Rattle.taking.proofs.Largest.{takes_largest}
 use Rattle.histories.specs.declared.verdict.Verdict.{Verdict}
 use Rattle.histories.specs.Calls.{Stage, entries, Learned, learned_clause, learned_subgoal, turn_refused, turn_holds, turn_full, turn_stores, take_refused, take_unread, take_full, take_stores}
 use Rattle.histories.specs.Laws.{Stores, TurnLearns, Takes, TakingLargest}
+use Rattle.histories.proofs.Determined.{turn_determined}
 
 -- the clause of a learned entry is over the relays
 learned_over : (c : System) → Admitted c → (es : List Entry) (s : ℕ) (e : Entry) → LearnedClause c es s e → OverRelays c.n (clause_of e)
@@ -34,7 +35,7 @@ learned_over c adm es s e h = subst (λ (e : Entry). OverRelays c.n (clause_of e
         let one = spelled_consistent c.n (marked h.trimmed) (λ i. not (bit s i)) in
         all_members (λ l. variable_of l < c.n) _ (λ l m. member_all (λ l. variable_of l < c.n) (false_at c.n s h.trimmed) l narrow (entry_part Found _ wide one l m))
 
-stores : (c : System) → Admitted c → (es : List Entry) (k s t : ℕ) (e : Entry) (v : Verdict) → FirstCounterexample c es k s t → Learned c es k s t e v → Stores c es e
+stores : (c : System) → Admitted c → (es : List Entry) (k s t : ℕ) (e : Entry) (v : Verdict) → FirstCounterexample c es k s t → Learned c es k s t e v → Stores c es e v
 stores c adm es k s t e v first (learned_clause h u) =
     let least = learns_minimal c adm.relays.1 es s (Some e) h in
     record {
@@ -45,6 +46,8 @@ stores c adm es k s t e v first (learned_clause h u) =
       subgoal_exactly =
           (λ q. absurd (true≢false (sym (ap (λ (e : Entry). is_subgoal e.kind) q) ∙ ap is_subgoal least.0)), λ n. absurd (n (clause_of e) (learned_over c adm es s e h) least.1.false_there least.1.inductive));
       else_minimal = λ n. least;
+      only_target = λ j a b f. (turn_determined c es j k a b s t e e v v f first).0;
+      only_entry = λ d p l. (turn_determined c es k k s t s t d e p v first first).1 l (learned_clause h u);
     }
 stores c adm es k s t e v first (learned_subgoal h q j) =
     record {
@@ -54,13 +57,17 @@ stores c adm es k s t e v first (learned_subgoal h q j) =
       first = first;
       subgoal_exactly = (λ w. learns_minimal c adm.relays.1 es s None h, λ n. q);
       else_minimal = λ n. absurd (n q);
+      only_target = λ i a b f. (turn_determined c es i k a b s t e e v v f first).0;
+      only_entry = λ d p l. (turn_determined c es k k s t s t d e p v first first).1 l (learned_subgoal h q j);
     }
 
 pub turn_learns : TurnLearns
 turn_learns capacity x y adm (turn_refused f h e q) = cc
 turn_learns capacity x y adm (turn_holds h n e q) = inl (ap (λ (z : Stage). z.work.verdict) q, ap (λ (z : Stage). z.book) q)
 turn_learns capacity x y adm (turn_full h k s t f l e q) = cc
-turn_learns capacity x y adm (turn_stores h k s t f l e v learned r q) = inr (e, ap (λ (z : Stage). z.book) q, stores x.work.system adm (entries x) k s t e v f learned)
+turn_learns capacity x y adm (turn_stores h k s t f l e v learned r q) =
+    let given = ap (λ (z : Stage). z.work.verdict) q in
+    inr (e, ap (λ (z : Stage). z.book) q, subst (Stores x.work.system (entries x) e) (sym given) (stores x.work.system adm (entries x) k s t e v f learned))
 
 pub taking_largest : TakingLargest
 taking_largest capacity x y ds adm (take_refused f h e q) = cc

@@ -71,21 +71,24 @@ TurnsDecide c k w es =
 abbrev pub EveryListDecides : Type 0
 EveryListDecides = (c : System) (k : ℕ) (w : Progress) (es : List Entry) → Lived c k w es → PlacesSuffice c k w es × TurnsDecide c k w es
 
--- what an accepted turn stores: the state found as a subgoal exactly where no clause false there is inductive, and otherwise
--- a minimal inductive clause that is false there
-pub record Stores (c : System) (es : List Entry) (e : Entry) : Type 0 where
+-- what an accepted turn stores, with the verdict: the state found as a subgoal exactly where no clause false there is inductive,
+-- and otherwise a minimal inductive clause that is false there. The target is the only first one, and nothing else can be stored
+-- of the state and the successor
+pub record Stores (c : System) (es : List Entry) (e : Entry) (v : Verdict) : Type 0 where
   pub target : ℕ
   pub state : ℕ
   pub successor : ℕ
   pub first : FirstCounterexample c es target state successor
   pub subgoal_exactly : (e ≡ subgoal state successor target) ↔ NoneInductive c es state
   pub else_minimal : (e ≡ subgoal state successor target → ⊥) → (e.kind ≡ Found) × MinimalInductive c es state (clause_of e)
+  pub only_target : (k s t : ℕ) → FirstCounterexample c es k s t → k ≡ target
+  pub only_entry : (d : Entry) (p : Verdict) → Learned c es target state successor d p → (d ≡ e) × (p ≡ v)
 
 -- an accepted turn decides that the system holds and leaves the book, or stores one entry in the next place
 abbrev pub Learns : Stage → Stage → Type 0
 Learns x y =
     ((y.work.verdict ≡ Holds) × (y.book ≡ x.book))
-    ⊎ ((e : Entry) × (y.book ≡ written x.book x.work.used (e ∷ [])) × Stores x.work.system (entries x) e)
+    ⊎ ((e : Entry) × (y.book ≡ written x.book x.work.used (e ∷ [])) × Stores x.work.system (entries x) e y.work.verdict)
 
 abbrev pub TurnLearns : Type 0
 TurnLearns = (capacity : Capacity) (x y : Stage) → Admitted x.work.system → Turned capacity x (Ok tt) y → Learns x y
@@ -107,11 +110,14 @@ TurnDetermined =
     → FirstCounterexample c es j s t → FirstCounterexample c es k u v
     → (j ≡ k) × (Learned c es k s t d p → Learned c es k s t e q → (d ≡ e) × (p ≡ q))
 
--- a taking leaves nothing free
+-- a taking leaves nothing free: it can answer and leave nothing else
+abbrev pub OnlyTaking : Capacity → Stage → Result (List (List ℕ)) WorkFault → Result (Unit {0}) WorkFault → Stage → Type 0
+OnlyTaking capacity x read r y = (q : Result (Unit {0}) WorkFault) (z : Stage) → Took capacity x read q z → (q ≡ r) × (z ≡ y)
+
 abbrev pub TakingDetermined : Type 0
 TakingDetermined =
-    (capacity : Capacity) (x : Stage) (read : Result (List (List ℕ)) WorkFault) (p q : Result (Unit {0}) WorkFault) (y z : Stage)
-    → Took capacity x read p y → Took capacity x read q z → (p ≡ q) × (y ≡ z)
+    (capacity : Capacity) (x : Stage) (read : Result (List (List ℕ)) WorkFault) (r : Result (Unit {0}) WorkFault) (y : Stage)
+    → Took capacity x read r y → OnlyTaking capacity x read r y
 
 -- of a broken work over its book as left, the states read out from 0 until none is left are a run that contains a broken state
 pub record ReadsRun (c : System) (w : Progress) (book : List Entry) : Type 0 where

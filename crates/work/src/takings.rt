@@ -7,6 +7,7 @@ ghost use Rattle.candidate_sieve.specs.Candidates.{chosen};
 ghost use Rattle.taking.specs.Taking.{taken_entries};
 ghost use Rattle.histories.specs.Calls.{checked, written, Took};
 ghost use Rattle.histories.specs.declared.verdict.Verdict.TheVariants.{Undecided};
+ghost use Rattle.histories.specs.Laws.{OnlyTaking};
 ghost use Rattle.histories.specs.Promises.{TakingPromises};
 
 use crate::account::Account;
@@ -32,6 +33,7 @@ impl Work {
     ) -> Result<(), WorkFault>
         ensures took { Took (S.Solver.capacity solver.old) (record { work = self.old; book = book.old; held = S.Solver.held solver.old }) (read_candidates self.old.system.n bytes.now) result (record { work = self.new; book = book.new; held = S.Solver.held solver.new }) }
         ensures promises { TakingPromises (record { work = self.old; book = book.old; held = S.Solver.held solver.old }) bytes.now result (record { work = self.new; book = book.new; held = S.Solver.held solver.new }) }
+        ensures only { OnlyTaking (S.Solver.capacity solver.old) (record { work = self.old; book = book.old; held = S.Solver.held solver.old }) (read_candidates self.old.system.n bytes.now) result (record { work = self.new; book = book.new; held = S.Solver.held solver.new }) }
         ensures capacity { S.Solver.capacity solver.new ≡ S.Solver.capacity solver.old }
     {
         self.account.take(solver, book, bytes)

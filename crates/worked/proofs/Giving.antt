@@ -110,4 +110,4 @@ module _ (c : System) (places : ℕ) (es : List Entry) (capacity : Capacity) (x 
 
     pub taking_stores : (r : Result (Unit {0}) WorkFault) (y : Stage) → Took capacity x (Ok ds) r y ↔ ((r ≡ Ok tt) × (y ≡ storing x (taken_entries ds M) Undecided))
     taking_stores r y =
-        (λ t. taking_determined capacity x (Ok ds) r (Ok tt) y (storing x (taken_entries ds M) Undecided) t (stores (Ok tt) (storing x (taken_entries ds M) Undecided) (refl, refl)), stores r y)
+        (taking_determined capacity x (Ok ds) (Ok tt) (storing x (taken_entries ds M) Undecided) (stores (Ok tt) (storing x (taken_entries ds M) Undecided) (refl, refl)) r y, stores r y)
