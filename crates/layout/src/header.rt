@@ -7,7 +7,7 @@ use clauses::Scope;
 use faults::{CaseFault, ListName};
 
 // How many bytes a header has.
-pub(crate) const HEADER: usize = 18;
+pub const HEADER: usize = 18;
 
 // How many bytes a case has at most.
 const MOST: usize = 32768;

@@ -5,5 +5,5 @@
 mod header;
 mod sections;
 
-pub use header::read_field;
+pub use header::{HEADER, read_field};
 pub use sections::check_case;
