@@ -9,6 +9,7 @@ use crate::system::{is_negated, variable, System};
 use crate::turn::{kept_by_sets, kept_together};
 use crate::work::MOST_PLACES;
 
+/// What a judging comes to.
 #[repr(C)]
 #[derive(Clone, Copy, Default, Debug)]
 pub struct Told {
@@ -21,7 +22,7 @@ pub struct Told {
 #[repr(C)]
 #[derive(Clone, Copy, Default, Debug)]
 pub struct Reply {
-    pub yes: u32,
+    pub yes: u64,
     pub low: u64,
     pub high: u64,
 }
@@ -358,7 +359,7 @@ impl Questions {
             let Reply { yes, low, high } = replies[number];
             let can = can_be_true(&held, assumed);
             coverage.note("questions", if can { "yes" } else { "no" });
-            equal("yes", yes, u32::from(can))?;
+            equal("yes", yes, u64::from(can))?;
             if can && !makes_true(&held, assumed, (low, high)) {
                 return Err(format!("question {number}: the valuation {low} {high} leaves something false"));
             }
