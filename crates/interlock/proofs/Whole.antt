@@ -15,5 +15,5 @@ whole k bs text h a =
 
 pub answered : (k : ℕ) (input before after : Option (List ℕ)) (bs text : List ℕ) → 32768 < k
     → IfSome (option_map (take k) input) (λ xs. bs ≡ [] ++ xs) → AnswerTo bs (read_case bs) text → Appends before after text → Answered input before after
-answered k None before after bs text h e a w = tt
+answered k None before after bs text h e a w = (bs, text, a, w)
 answered k (Some all) before after bs text h e a w = (text, whole k all text h (subst (λ xs. AnswerTo xs (read_case xs) text) e a), w)
