@@ -1,5 +1,6 @@
 // Unit propagation.
-ghost use Rattle.std.specs.Prelude.{◌≡◌, ℕ, List};
+ghost use Rattle.std.specs.Prelude.{◌≡◌, ℕ, not, List};
+ghost use Rattle.system.specs.Spelling.{literal_of};
 ghost use Rattle.masks.specs.Masks.{Implied};
 ghost use Rattle.masks.specs.Questions.{Each};
 ghost use Rattle.masks.specs.Standings.{Stands};
@@ -14,7 +15,9 @@ use trail::{Decision, Forcing, Trail};
 
 // The literal that the decision makes false, as its byte. It stays a function of a decision: a literal of a variable above 127
 // has no byte.
-fn falsified(decision: Decision) -> u8 {
+fn falsified(decision: Decision) -> u8
+    ensures { result ≡ literal_of decision.variable (not decision.value) }
+{
     decision.variable * 2 + u8::from(decision.value)
 }
 

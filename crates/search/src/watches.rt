@@ -1,6 +1,9 @@
 // Two literals of each clause that are watched: the clause is looked at when one of them becomes false. Nothing rests on
 // what is watched but speed: a clause that goes unnoticed is found by the last pass over all held clauses.
-ghost use Rattle.std.specs.Prelude.{◌<◌};
+ghost use Rattle.std.specs.Prelude.{◌≡◌, ◌%◌, ◌<◌, true};
+ghost use Rattle.system.specs.Spelling.{literal_of};
+ghost use Rattle.masks.specs.Masks.{inside};
+ghost use Rattle.search.specs.Watched.{Highest};
 
 use masks::{ClauseMask, Standing, has_variable, set_of, without};
 use std::alloc::{AllocError, Global};
@@ -34,13 +37,16 @@ pub struct Watches {
 
 // The highest of the variables. It is 0 where there is none, so that each clause has two links all the same.
 fn highest(variables: u128) -> u8
-    ensures { result < 128 }
+    ensures bound { result < 128 }
+    ensures highest { Highest variables result }
 {
     (127 - variables.leading_zeros().min(127)) as u8
 }
 
 // The literal of the variable in the clause, plain where it has both.
-fn literal_in(mask: ClauseMask, variable: u8) -> u8 {
+fn literal_in(mask: ClauseMask, variable: u8) -> u8
+    ensures { result ≡ literal_of (variable % 128) (inside mask (variable % 128) true) }
+{
     variable % 128 * 2 + u8::from(!has_variable(mask.positive, variable))
 }
 
