@@ -1,5 +1,5 @@
 // The search: propagate, learn from a conflict and jump back, or choose, until all is true or nothing can be.
-ghost use Rattle.std.specs.Prelude.{◌≡◌, ℕ, ◌<◌, true, IfOk, MatchResult};
+ghost use Rattle.std.specs.Prelude.{◌≡◌, ℕ, ◌<◌, true, reverse, IfOk, MatchResult};
 ghost use Rattle.system.specs.Literals.{bit};
 ghost use Rattle.masks.specs.Masks.{Implied};
 ghost use Rattle.masks.specs.Questions.{Units, Decided};
@@ -7,6 +7,7 @@ ghost use Rattle.masks.specs.Standings.{Unassigned};
 ghost use Rattle.trail.specs.Entries.{entries, made_true};
 ghost use Rattle.trail.specs.Reasons.{Refuted};
 ghost use Rattle.search.specs.Searches.{Conflict, Asked, Occurring, Keeps, Refutes, Taught, Chooses, Rises, Satisfies, Turned};
+ghost use Rattle.search.specs.Watched.{first_other};
 
 use crate::learned::Learned;
 use crate::progress::{Progress, Unsatisfiable};
@@ -20,7 +21,9 @@ use trail::{Decision, Forcing, Trail};
 
 // The other variable of the clause that has the latest decision, or 0 where there is none, so that each clause has two links
 // all the same. Nothing rests on it but speed.
-fn latest(decisions: &[Decision], clause: ClauseMask, but: u8) -> u8 {
+fn latest(decisions: &[Decision], clause: ClauseMask, but: u8) -> u8
+    ensures { result ≡ first_other clause but (reverse decisions.now) }
+{
     decisions
         .iter()
         .rev()
