@@ -1,2 +1,3 @@
 mod Resolving
+mod Settling
 mod Walking

@@ -1,5 +1,5 @@
 -- What a conflict teaches: a clause that forces a variable at an earlier choice, or that nothing can be true.
-use Rattle.std.specs.Prelude.{◌≡◌, ℕ, ◌+◌, ◌<◌, ◌≤◌, Bool, true, not, List, length, take, Some, None, Option, IfSome, slice_index_or}
+use Rattle.std.specs.Prelude.{◌≡◌, ℕ, ◌+◌, ◌<◌, ◌≤◌, Bool, true, false, cond, not, ◌||◌, List, [], ◌∷◌, length, reverse, take, Some, None, Option, IfSome, slice_index_or}
 use Rattle.system.specs.Literals.{bit}
 use Rattle.masks.specs.Masks.{none, Implied}
 use Rattle.masks.specs.Questions.{Hopeless}
@@ -18,6 +18,25 @@ Named ds j = (b : Bool) × (has ds j b ≡ true)
 -- the entry at k is a choice
 abbrev pub ChosenAt : List Decision → ℕ → Type 0
 ChosenAt ds k = (e : Decision) → (slice_index_or ds k e).forcing ≡ Chosen
+
+-- whether it is a free choice
+abbrev pub is_choice : Forcing → Bool
+is_choice Assumed = false
+is_choice Chosen = true
+is_choice (Forced m) = false
+
+-- of decisions, the latest first, those before the last choice, and none where there is no choice
+abbrev pub before_choice : List Decision → List Decision
+before_choice [] = []
+before_choice (d ∷ ds) = cond (is_choice d.forcing) ds (before_choice ds)
+
+-- x has just the variables that the decisions are on
+abbrev pub Covers : List Decision → ℕ → Type 0
+Covers ds x = (j : ℕ) → bit x j ≡ (has ds j true || has ds j false)
+
+-- x has just the variables that have a value before the last choice
+abbrev pub Settled : List Decision → ℕ → Type 0
+Settled ds x = Covers (before_choice (reverse ds)) x
 
 -- a choice, up to the entry last, before which each of the needed variables has a value
 abbrev pub Lands : List Decision → ℕ → ℕ → Option ℕ → Type 0

@@ -3,14 +3,16 @@ ghost use Rattle.std.specs.Prelude.{◌≡◌, ℕ, ◌<◌, Bool, true, not, �
 ghost use Rattle.masks.specs.Masks.{inside};
 ghost use Rattle.trail.specs.Decisions.{distinct};
 ghost use Rattle.trail.specs.Entries.{entries};
-ghost use Rattle.analysis.specs.Conflicts.{Lands, reason_of, Asserts, Analyzed};
+ghost use Rattle.analysis.specs.Conflicts.{Settled, Lands, reason_of, Asserts, Analyzed};
 
 use crate::jump::Jump;
 use masks::{ClauseMask, Literal, set_of, without};
 use trail::{Decision, Forcing, Trail};
 
 // The variables that have a value before the last choice. Nothing rests on it but speed.
-fn settled(decisions: &[Decision]) -> u128 {
+fn settled(decisions: &[Decision]) -> u128
+    ensures { Settled decisions.now result }
+{
     let mut known = 0u128;
     let mut before = 0u128;
     for decision in decisions {
