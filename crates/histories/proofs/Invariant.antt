@@ -5,7 +5,7 @@ use Rattle.std.proofs.Math.Seq.{take-append-add}
 use Rattle.std.proofs.lemmas.Bool.{cases_lt, ltb-true, eq-eqb, eqb-true}
 use Rattle.std.proofs.lemmas.List.{get_or_append_left, get_or-append_right, get_or-take, length-append, length-take, take-append-le}
 use Rattle.system.specs.Literals.{bit, clause, clauses, Member}
-use Rattle.system.specs.Systems.{System, Initial, Step, Steps, Reached, Broken, Safe, Initiation}
+use Rattle.system.specs.Systems.{System, Initial, Step, Steps, Reached, Broken, Safe, Initiation, Inductive}
 use Rattle.system.proofs.Truth.{T_of, T_true, cases_T, and_l, and_r, and_i, member_cases, clauses_each}
 use Rattle.system.proofs.Runs.{reached_initial, reached_step, in_reached, safe_reached, reached_safe}
 use Rattle.layout.specs.Spelling.{Admitted}
@@ -137,11 +137,10 @@ module _ (c : System) (es : List Entry) (so : Sound c es) where
       step : (s t : ℕ) → Reached c s × T (meets c es s) → Step c s t → Reached c t × T (meets c es t)
       step s t p j = let z = reached_step c s t p.0 j in (z, safe_at safe t z (λ e m k. (so.clause_entries e m k).stepped s t p.1 j))
 
-  -- where no initial state is broken or a subgoal, and no counterexample is left, every reached state meets the book
-  pub none_left : Admitted c → ((s : ℕ) → Initial c s → Broken c s → ⊥) → ((e : Entry) → Member e es → T (is_subgoal e.kind) → Initial c e.first → ⊥)
-      → NoCounterexample c es → Safe c
-  none_left adm unbroken uninitial none =
-      reached_safe c (λ s z b. T_not _ b (and_l (clauses (bit s) c.safety) (admitted es s) (in_reached c (λ s. T (meets c es s)) start step s z)))
+  -- where no initial state is broken or a subgoal, and no counterexample is left, to meet the book is inductive
+  pub meets_inductive : Admitted c → ((s : ℕ) → Initial c s → Broken c s → ⊥) → ((e : Entry) → Member e es → T (is_subgoal e.kind) → Initial c e.first → ⊥)
+      → NoCounterexample c es → Inductive c (λ s. true) (meets c es)
+  meets_inductive adm unbroken uninitial none = (start, λ s t y p j. step s t p j)
     where
       start : (s : ℕ) → Initial c s → T (meets c es s)
       start s h = meets_by s (unbroken s h) (λ e m k. (so.clause_entries e m k).initiated s h) (λ e m k q. uninitial e m k (subst (Initial c) q h))
@@ -156,3 +155,8 @@ module _ (c : System) (es : List Entry) (so : Sound c es) where
           let r = member_at es e blank m in
           let there = and_i (is_subgoal e.kind) (nat_eq e.first t) k (T_of (eq-eqb _ _ (sym q))) in
           to (256 + r.0) (aimed_subgoal c es r.0 t adm.few.2 (subst (λ (x : Entry). T (is_subgoal x.kind && nat_eq x.first t)) (sym r.2) there)))
+
+  -- and what is inductive so keeps the system safe
+  pub inductive_safe : Inductive c (λ s. true) (meets c es) → Safe c
+  inductive_safe i =
+      reached_safe c (λ s z b. T_not _ b (and_l (clauses (bit s) c.safety) (admitted es s) (in_reached c (λ s. T (meets c es s)) i.0 (λ s t p j. i.1 s t tt p j) s z)))

@@ -156,6 +156,7 @@ module _ (capacity : Capacity) (c : System) (places k : ℕ) (x : Stage) (old : 
           admitted = subst Admitted (sym here) old.admitted;
           spelled = spelled ∙ ap spell (sym here);
           size = old.size;
+          lived = (k, subst (λ z. Lived z k x.work (entries x)) (sym here) old.lived);
           lawful = subst (λ z. Lawful z x.work (entries x)) (sym here) (lawful c k x.work (entries x) old.lived);
           given = given;
           refused = λ g q. let r = right g q in (r.0, r.1, r.2, subst (λ (z : System). x.work.places < 2 ^ z.n) (sym here) r.3);

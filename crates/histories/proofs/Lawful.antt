@@ -9,8 +9,8 @@ use Rattle.books.specs.Books.{admitted}
 use Rattle.books.proofs.Entries.{admits_clause, admitted_at}
 use Rattle.histories.specs.declared.verdict.Verdict.{Verdict}
 use Rattle.histories.specs.declared.verdict.Verdict.TheVariants.{Undecided, Holds, BrokenAt, BrokenByEntry}
-use Rattle.histories.specs.Laws.{ClausesHold, Concluded, EveryListLawful}
-use Rattle.histories.proofs.Invariant.{Sound, path_doomed, safe_meets, none_left}
+use Rattle.histories.specs.Laws.{ClausesHold, Concluded, Certified, EveryListLawful}
+use Rattle.histories.proofs.Invariant.{Sound, path_doomed, safe_meets, meets_inductive, inductive_safe}
 use Rattle.histories.proofs.Storable.{Grounds}
 use Rattle.histories.proofs.Standing.{lived_standing}
 
@@ -20,11 +20,17 @@ clauses_hold c es so safe e m k s z =
 
 concludes : (c : System) (es : List Entry) → Admitted c → Sound c es → (v : Verdict) → Grounds c es v → Concluded c v es
 concludes c es adm so Undecided g = tt
-concludes c es adm so Holds g = none_left c es so adm g.0 g.1 g.2
+concludes c es adm so Holds g = inductive_safe c es so (meets_inductive c es so adm g.0 g.1 g.2)
 concludes c es adm so (BrokenAt s) g = ((g.0, tt), (s, inl refl, g.1))
 concludes c es adm so BrokenByEntry g =
     let d = path_doomed c es so (length es) (length es - 1) (omega arith) (omega arith) g.1 in
     ((g.2, d.0), (d.1.0, inr d.1.1, d.1.2))
+
+certifies : (c : System) (es : List Entry) → Admitted c → Sound c es → (v : Verdict) → Grounds c es v → Certified c v es
+certifies c es adm so Undecided g = tt
+certifies c es adm so Holds g = meets_inductive c es so adm g.0 g.1 g.2
+certifies c es adm so (BrokenAt s) g = tt
+certifies c es adm so BrokenByEntry g = tt
 
 pub lawful : EveryListLawful
 lawful c k w es l =
@@ -35,6 +41,8 @@ lawful c k w es l =
       within = stands.within;
       ruled = stands.ruled;
       leading = λ j h k. let lead = stands.sound.subgoals j h k in (lead.joined, lead.at);
+      inductive = λ e m k. let carried = stands.sound.clause_entries e m k in (carried.initiated, λ s t y p j. carried.stepped s t y j);
       sound = clauses_hold c es stands.sound;
       concluded = concludes c es stands.system_admitted stands.sound w.verdict stands.grounds;
+      certified = certifies c es stands.system_admitted stands.sound w.verdict stands.grounds;
     }

@@ -1,7 +1,7 @@
 -- The laws over any list of calls: soundness, decision, and what each accepted call stores.
-use Rattle.std.specs.Prelude.{◌≡◌, ℕ, ◌+◌, ◌^◌, ◌<◌, ◌≤◌, cond, T, ◌⊎◌, ◌↔◌, List, [], ◌∷◌, length, take, Ok, Err, Result, slice_index_or}
+use Rattle.std.specs.Prelude.{◌≡◌, ℕ, ◌+◌, ◌^◌, ◌<◌, ◌≤◌, true, cond, T, ◌⊎◌, ◌↔◌, List, [], ◌∷◌, length, take, Ok, Err, Result, slice_index_or}
 use Rattle.system.specs.Literals.{bit, clause, Member}
-use Rattle.system.specs.Systems.{System, Step, Reached, BrokenRun, Safe}
+use Rattle.system.specs.Systems.{System, Step, Reached, BrokenRun, Safe, Inductive}
 use Rattle.solver.specs.declared.capacity.Capacity.{Capacity}
 use Rattle.faults.specs.declared.work.WorkFault.{WorkFault}
 use Rattle.faults.specs.declared.work.WorkFault.TheVariants.{NoSuchState, NoPlace}
@@ -9,7 +9,7 @@ use Rattle.layout.specs.Spelling.{Admitted}
 use Rattle.books.specs.declared.entry.Entry.{Entry}
 use Rattle.books.specs.declared.entry.Kind.TheVariants.{Found}
 use Rattle.books.specs.Entries.{is_subgoal, is_clause, is_taken, blank, clause_of, subgoal}
-use Rattle.books.specs.Books.{Ruled}
+use Rattle.books.specs.Books.{Ruled, meets}
 use Rattle.books.specs.Targets.{aimed, FirstCounterexample}
 use Rattle.learning.specs.Minimal.{NoneInductive, MinimalInductive}
 use Rattle.taking.specs.Taking.{taken_entries, TakesLargest}
@@ -22,6 +22,18 @@ use Rattle.histories.specs.Reads.{read_out, state_at}
 -- in a safe system every clause of the book is true in every reached state
 abbrev pub ClausesHold : System → List Entry → Type 0
 ClausesHold c es = Safe c → (e : Entry) → Member e es → T (is_clause e.kind) → (s : ℕ) → Reached c s → T (clause (bit s) (clause_of e))
+
+-- every clause of the book is inductive relative to the whole book
+abbrev pub ClausesInductive : System → List Entry → Type 0
+ClausesInductive c es = (e : Entry) → Member e es → T (is_clause e.kind) → Inductive c (meets c es) (λ s. clause (bit s) (clause_of e))
+
+-- where the system holds, to be consistent with the book is inductive on its own; and only states that keep the safety list are
+-- consistent. So the book shows by itself that the system is safe
+abbrev pub Certified : System → Verdict → List Entry → Type 0
+Certified c Undecided es = Unit {0}
+Certified c Holds es = Inductive c (λ s. true) (meets c es)
+Certified c (BrokenAt s) es = Unit {0}
+Certified c BrokenByEntry es = Unit {0}
 
 -- what a verdict says of the system: holding, that it is safe; broken, that the states read out are a run that contains a
 -- broken state
@@ -50,8 +62,10 @@ pub record Lawful (c : System) (w : Progress) (es : List Entry) : Type 0 where
   pub within : w.used ≤ w.places
   pub ruled : Ruled c es
   pub leading : SubgoalsLead c es
+  pub inductive : ClausesInductive c es
   pub sound : ClausesHold c es
   pub concluded : Concluded c w.verdict es
+  pub certified : Certified c w.verdict es
 
 abbrev pub EveryListLawful : Type 0
 EveryListLawful = (c : System) (k : ℕ) (w : Progress) (es : List Entry) → Lived c k w es → Lawful c w es

@@ -77,12 +77,13 @@ pub record Judging (capacity : Capacity) (bs : List ℕ) (book : List Entry) (he
   pub turns : Turns capacity (record { work = opened; book = book; held = after }) accepted last
   pub ends : Ended capacity last f y
 
--- what judging promises: the system is the admitted one that the bytes spell, all places of the book are the work's, and the
--- verdict is right; one was given, or a turn was refused for want of a place, all were used, and there were fewer than 2 ^ n
+-- what judging promises: the system is the admitted one that the bytes spell, all places of the book are the work's, a list of
+-- calls left them so, and the verdict is right; one was given, or a turn was refused for want of a place, all were used, and there were fewer than 2 ^ n
 pub record JudgingPromises (bs : List ℕ) (f : Option WorkFault) (w : Progress) (book : List Entry) : Type 0 where
   pub admitted : Admitted w.system
   pub spelled : bs ≡ spell w.system
   pub size : length book ≡ w.places
+  pub lived : (k : ℕ) × Lived w.system k w (take w.used book)
   pub lawful : Lawful w.system w (take w.used book)
   pub given : f ≡ None → T (decided w.verdict)
   pub refused : (g : WorkFault) → f ≡ Some g → (g ≡ NoPlace) × T (not (decided w.verdict)) × (w.used ≡ w.places) × (w.places < 2 ^ w.system.n)
