@@ -73,9 +73,15 @@ def spent(crate, folder):
 
 def functions_of(crate, top):
     """Each function of the crate, with the processor seconds between the end of the proof before and the end of its own."""
-    shutil.rmtree(f"{top}/crates/{crate}/out", ignore_errors=True)
     folder = f"{top}/crates/{crate}"
-    run = subprocess.Popen(["rt", "check", "--progress", "--jobs", "1"], cwd=folder, stdout=subprocess.PIPE, stderr=subprocess.STDOUT, text=True)
+    shutil.rmtree(f"{folder}/out", ignore_errors=True)
+    os.makedirs(f"{folder}/out/incremental")
+    # so that the check does not begin with what another checkout kept of the same text
+    root = next(it for it in (f"{folder}/src/lib.rt", f"{folder}/src/main.rt") if os.path.exists(it))
+    with open(root, "a") as it:
+        it.write(f"// measured at {time.time()}\n")
+    at_once = {**os.environ, "PYTHONUNBUFFERED": "1"}
+    run = subprocess.Popen(["rt", "check", "--progress", "--jobs", "1"], cwd=folder, env=at_once, stdout=subprocess.PIPE, stderr=subprocess.STDOUT, text=True)
     before = 0.0
     for line in run.stdout:
         found = re.match(r"checked (.*), \d+ of \d+", line)
