@@ -72,7 +72,8 @@ def spent(crate, folder):
 
 
 def functions_of(crate, top):
-    """Each function of the crate, with the processor seconds between the end of the proof before and the end of its own."""
+    """Each function of the crate, with the processor seconds between the end of the proof before and the end of its own. The first one has those of
+    the start, too, and is named so."""
     folder = f"{top}/crates/{crate}"
     shutil.rmtree(f"{folder}/out", ignore_errors=True)
     os.makedirs(f"{folder}/out/incremental")
@@ -87,7 +88,7 @@ def functions_of(crate, top):
         found = re.match(r"checked (.*), \d+ of \d+", line)
         if found:
             now = max(spent(crate, folder), before)
-            yield now - before, f"{crate}: {found.group(1)}"
+            yield now - before, f"{crate}: {found.group(1)}" + ("" if before else ", and the start")
             before = now
     run.wait()
 
