@@ -12,7 +12,7 @@ use Rattle.system.proofs.Spelled.{length_spelled}
 use Rattle.solver.specs.Answers.{need_of, spare}
 use Rattle.solver.specs.declared.capacity.Capacity.{Capacity}
 use Rattle.books.specs.Entries.{held_as, held_clauses}
-use Rattle.books.specs.Books.{rule_as, Ruled, book_loaded, room_for, enough, room_fault}
+use Rattle.books.specs.Books.{rule_as, Ruled, book_loaded, room_for, enough, places_fault, room_fault, told_clauses, told_room, told_room_fault}
 use Rattle.books.specs.declared.entry.Entry.{Entry}
 use Rattle.books.specs.declared.entry.Kind.{Kind}
 use Rattle.books.specs.declared.entry.Kind.TheVariants.{Blank, Found, Subgoal, Taken}
@@ -21,7 +21,7 @@ use Rattle.books.proofs.Ruled.{member_rule, rule_low}
 use Rattle.std.proofs.lemmas.Nat.{mul-le}
 use Rattle.system.specs.Literals.{size}
 use Rattle.system.specs.Systems.{System}
-use Rattle.faults.specs.Firsts.{or_else}
+use Rattle.faults.specs.Firsts.{or_else, unless}
 use Rattle.faults.specs.Refusals.{count_place}
 use Rattle.faults.specs.declared.case.ListName.TheVariants.{Start, Step, Safety}
 use Rattle.faults.specs.declared.work.WorkFault.TheVariants.{TooManyPlaces, NoCapacity}
@@ -54,23 +54,25 @@ room_enough c a capacity places h clauses literals =
     let fits = and_from _ _ (le-leb (0 + (length c.start + length c.step + length c.safety + places + 513)) capacity.clauses (omega arith)) (le-leb (0 + (size c.start + size c.step + size c.safety + c.n * (places + 513))) capacity.literals (omega arith)) in
     both_none _ _ (none_unmet (nat_le places 8192) TooManyPlaces (le-leb places 8192 h)) (none_unmet _ NoCapacity fits)
 
--- the room that the bytes of a system tell
-pub told_room : (c : System) (bytes : List ℕ) (places : ℕ) → bytes ≡ spell c → (relays start step safety literals : ℕ) → relays ≡ field bytes 0
-    → start ≡ field bytes (count_place Start) → step ≡ field bytes (count_place Step) → safety ≡ field bytes (count_place Safety)
-    → literals ≡ length bytes - (18 + (start + step + safety))
-    → record { clauses = start + step + safety + (places + 513); literals = literals + relays * (places + 513) } ≡ room_for c places
-told_room c bytes places e relays start step safety literals r a b d l =
-    let n : relays ≡ c.n = r ∙ ap (λ bs. field bs 0) e ∙ field_relays c in
-    let i : start ≡ length c.start = a ∙ ap (λ bs. field bs (count_place Start)) e ∙ counted c Start in
-    let j : step ≡ length c.step = b ∙ ap (λ bs. field bs (count_place Step)) e ∙ counted c Step in
-    let k : safety ≡ length c.safety = d ∙ ap (λ bs. field bs (count_place Safety)) e ∙ counted c Safety in
+-- the bytes of a system tell the room for it
+pub room_told : (c : System) (bs : List ℕ) (places : ℕ) → bs ≡ spell c → told_room bs places ≡ room_for c places
+room_told c bs places e =
+    let n : field bs 0 ≡ c.n = ap (λ bs. field bs 0) e ∙ field_relays c in
+    let i : field bs (count_place Start) ≡ length c.start = ap (λ bs. field bs (count_place Start)) e ∙ counted c Start in
+    let j : field bs (count_place Step) ≡ length c.step = ap (λ bs. field bs (count_place Step)) e ∙ counted c Step in
+    let k : field bs (count_place Safety) ≡ length c.safety = ap (λ bs. field bs (count_place Safety)) e ∙ counted c Safety in
     let x = spelled_size c.start in
     let y = spelled_size c.step in
     let z = spelled_size c.safety in
     let long = ap length e ∙ spelled_length c in
-    let all : literals ≡ size c.start + size c.step + size c.safety = omega arith in
-    let m : relays * (places + 513) ≡ c.n * (places + 513) = ap (λ n. n * (places + 513)) n in
+    let all : length bs - (18 + told_clauses bs) ≡ size c.start + size c.step + size c.safety = omega arith in
+    let m : field bs 0 * (places + 513) ≡ c.n * (places + 513) = ap (λ n. n * (places + 513)) n in
     ap₂ (λ (k l : ℕ). record { clauses = k; literals = l }) (omega arith) (omega arith)
+
+-- so the answer by what they tell is the answer for it
+pub answer_told : (c : System) (bs : List ℕ) (places : ℕ) (capacity : Capacity) → bs ≡ spell c
+    → unless (told_room_fault capacity bs places) (tt {0}) ≡ unless (room_fault capacity c places) (tt {0})
+answer_told c bs places capacity e = ap (λ need. unless (places_fault capacity need places) (tt {0})) (room_told c bs places e)
 
 -- what enough room says
 parts : (c : System) (capacity : Capacity) (places : ℕ) → enough capacity c places ≡ true

@@ -6,8 +6,11 @@ use Rattle.system.specs.Preserving.{loaded}
 use Rattle.solver.specs.Answers.{spare}
 use Rattle.solver.specs.declared.capacity.Capacity.{Capacity}
 use Rattle.faults.specs.Firsts.{unmet, or_else}
+use Rattle.faults.specs.Refusals.{count_place}
+use Rattle.faults.specs.declared.case.ListName.TheVariants.{Start, Step, Safety}
 use Rattle.faults.specs.declared.work.WorkFault.{WorkFault}
 use Rattle.faults.specs.declared.work.WorkFault.TheVariants.{TooManyPlaces, AgainstRules, NoCapacity}
+use Rattle.layout.specs.Reading.{field}
 use Rattle.books.specs.declared.entry.Entry.{Entry}
 use Rattle.books.specs.declared.entry.Kind.{Kind}
 use Rattle.books.specs.declared.entry.Kind.TheVariants.{Blank, Found, Subgoal, Taken}
@@ -59,19 +62,35 @@ Ruled c es = rules_fault c es ≡ None
 abbrev pub book_loaded : System → List Entry → List (List ℕ)
 book_loaded c es = loaded c (held_clauses c.n es)
 
--- room for all clauses of a system, so many entries, one clause more, and 512 candidates
+-- room for so many clauses with so many literals, so many entries over the relays, one clause more, and 512 candidates
+abbrev pub room_beside : (clauses literals relays places : ℕ) → Capacity
+room_beside clauses literals relays places = record { clauses = clauses + places + 513; literals = literals + relays * (places + 513) }
+
+-- room for all clauses of a system
 abbrev pub room_for : System → ℕ → Capacity
-room_for c places = record {
-  clauses = length c.start + length c.step + length c.safety + places + 513;
-  literals = size c.start + size c.step + size c.safety + c.n * (places + 513);
-}
+room_for c places = room_beside (length c.start + length c.step + length c.safety) (size c.start + size c.step + size c.safety) c.n places
 
 abbrev pub enough : Capacity → System → ℕ → Bool
 enough capacity c places = spare (room_for c places) [] capacity
 
--- a book has at most 8192 places, and a solver has room for it
+-- a book has at most 8192 places, and a solver has the room that is needed with them
+abbrev pub places_fault : Capacity → Capacity → ℕ → Option WorkFault
+places_fault capacity need places = or_else (unmet (nat_le places 8192) TooManyPlaces) (unmet (spare need [] capacity) NoCapacity)
+
 abbrev pub room_fault : Capacity → System → ℕ → Option WorkFault
-room_fault capacity c places = or_else (unmet (nat_le places 8192) TooManyPlaces) (unmet (enough capacity c places) NoCapacity)
+room_fault capacity c places = places_fault capacity (room_for c places) places
+
+-- how many clauses the header of any bytes tells
+abbrev pub told_clauses : List ℕ → ℕ
+told_clauses bs = field bs (count_place Start) + field bs (count_place Step) + field bs (count_place Safety)
+
+-- the room that the header and the length of any bytes tell: behind the header each clause has a length byte, and every other
+-- byte is a literal
+abbrev pub told_room : List ℕ → ℕ → Capacity
+told_room bs places = room_beside (told_clauses bs) (length bs - (18 + told_clauses bs)) (field bs 0) places
+
+abbrev pub told_room_fault : Capacity → List ℕ → ℕ → Option WorkFault
+told_room_fault capacity bs places = places_fault capacity (told_room bs places) places
 
 -- the entries of a book keep the rules, and a solver has room for the system and them
 pub record Ready (c : System) (es : List Entry) (capacity : Capacity) : Type 0 where

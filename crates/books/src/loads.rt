@@ -6,7 +6,7 @@ ghost use Rattle.faults.specs.Refusals.{count_place};
 ghost use Rattle.system.specs.Systems.{System};
 ghost use Rattle.layout.specs.Reading.{field};
 ghost use Rattle.layout.specs.Spelling.{spell, Admitted};
-ghost use Rattle.books.specs.Books.{book_loaded, room_for, room_fault};
+ghost use Rattle.books.specs.Books.{book_loaded, room_fault, told_room, told_room_fault};
 
 use crate::entry::Entry;
 use cases::Case;
@@ -26,13 +26,14 @@ pub fn check_room<S: Solver>(solver: &S, case: &Case, places: usize) -> Result<(
     check_spelled_room(solver, case.bytes(), places)
 }
 
-// The same of the case that the bytes spell.
+// The same by what the header and the length of any bytes tell, which for the bytes of a case is what the case needs.
 pub fn check_spelled_room<S: Solver>(
     solver: &S,
     bytes: &[u8],
     places: usize,
 ) -> Result<(), WorkFault>
-    ensures { (c : System) → Admitted c → bytes.now ≡ spell c → result ≡ unless (room_fault (S.Solver.capacity solver.now) c places) tt }
+    ensures value { result ≡ unless (told_room_fault (S.Solver.capacity solver.now) bytes.now places) tt }
+    ensures law { (c : System) → Admitted c → bytes.now ≡ spell c → result ≡ unless (room_fault (S.Solver.capacity solver.now) c places) tt }
 {
     if places > MOST_PLACES {
         return Err(WorkFault::TooManyPlaces);
@@ -44,11 +45,11 @@ pub fn check_spelled_room<S: Solver>(
     Ok(())
 }
 
-// The room for the case that the bytes spell, so many places, one clause more and 512 candidates. Behind the header each
-// clause has a length byte, and every other byte is a literal.
+// The room for so many clauses as the header tells, so many places, one clause more and 512 candidates. Behind the header
+// each clause has a length byte, and every other byte is a literal.
 fn room_for(bytes: &[u8], places: usize) -> Capacity
     requires { places ≤ 8192 }
-    ensures { (c : System) → Admitted c → bytes.now ≡ spell c → result ≡ room_for c places }
+    ensures { result ≡ told_room bytes.now places }
 {
     let start = count(bytes, ListName::Start);
     let step = count(bytes, ListName::Step);

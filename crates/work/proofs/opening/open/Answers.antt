@@ -17,23 +17,23 @@ pub returns-in_err-check_spelled_room-clause-opened : goal.returns-in_err-check_
 returns-in_err-check_spelled_room-clause-opened g c =
     let p = err_from_is_err_and c.from_residual-in_err-check_spelled_room.result c.from_residual-in_err-check_spelled_room.ensures.1 in
     opened_refused (g.S.Solver.capacity c.args.solver.now) c.args.bytes.now c.args.places (g.S.Solver.held c.args.solver.now) c.type_inv.bytes c.in_ok-check_case.field-0 c.in_ok-check_case.ensures.value
-    c.in_err-check_spelled_room.field-0.0 _ c.in_err-check_spelled_room.ensures (p.1 ∙ ap Err p.2)
+    c.in_err-check_spelled_room.field-0.0 _ c.in_err-check_spelled_room.ensures.law (p.1 ∙ ap Err p.2)
 
 pub returns-in_err-case-clause-opened : goal.returns-in_err-case-clause-opened
 returns-in_err-case-clause-opened g c =
     let p = err_from_is_err_and c.from_residual-in_err-case.result c.from_residual-in_err-case.ensures.1 in
     opened_scarce (g.S.Solver.capacity c.args.solver.now) c.args.bytes.now c.args.places (g.S.Solver.held c.args.solver.now) c.type_inv.bytes c.in_ok-check_case.field-0 c.in_ok-check_case.ensures.value
-    c.in_ok-check_spelled_room.field-0 c.in_ok-check_spelled_room.ensures c.in_err-case.field-0.0 _ c.in_err-case.ensures.value (p.1 ∙ ap Err p.2)
+    c.in_ok-check_spelled_room.field-0 c.in_ok-check_spelled_room.ensures.law c.in_err-case.field-0.0 _ c.in_err-case.ensures.value (p.1 ∙ ap Err p.2)
 
 pub broken_at_start-requires : goal.broken_at_start-requires
 broken_at_start-requires g c =
     start_fits (g.S.Solver.capacity c.args.solver.now) c.args.bytes.now c.args.places (g.S.Solver.held c.args.solver.now) c.type_inv.bytes c.in_ok-check_case.field-0 c.in_ok-check_case.ensures.value
-    c.in_ok-check_spelled_room.field-0 c.in_ok-check_spelled_room.ensures c.in_ok-case.case c.in_ok-case.ensures.value
+    c.in_ok-check_spelled_room.field-0 c.in_ok-check_spelled_room.ensures.law c.in_ok-case.case c.in_ok-case.ensures.value
 
 pub invariant_of-result : goal.invariant_of-result
 invariant_of-result g c =
     account_fits (g.S.Solver.capacity c.args.solver.now) c.args.bytes.now c.args.places (g.S.Solver.held c.args.solver.now) c.type_inv.bytes c.in_ok-check_case.field-0 c.in_ok-check_case.ensures.value
-    c.in_ok-check_spelled_room.field-0 c.in_ok-check_spelled_room.ensures c.in_ok-case.case c.in_ok-case.ensures.value
+    c.in_ok-check_spelled_room.field-0 c.in_ok-check_spelled_room.ensures.law c.in_ok-case.case c.in_ok-case.ensures.value
 
 pub returns-clause-opened : goal.returns-clause-opened
 returns-clause-opened g c =
@@ -42,7 +42,7 @@ returns-clause-opened g c =
     let made = λ (v : Verdict). Ok (fresh system c.args.places v) in
     let read = read_ok c.args.bytes.now system c.in_ok-case.ensures.value in
     let none = roomy capacity c.args.bytes.now c.args.places (g.S.Solver.held c.args.solver.now) c.type_inv.bytes c.in_ok-check_case.field-0 c.in_ok-check_case.ensures.value
-    c.in_ok-check_spelled_room.field-0 c.in_ok-check_spelled_room.ensures system read in
+    c.in_ok-check_spelled_room.field-0 c.in_ok-check_spelled_room.ensures.law system read in
     open_read system read (elim c.match-broken_at_start.branch [
       | in-Some w ↦ open_broken none w.in-Some.state w.in-Some.ensures.broken.0 w.in-Some.ensures.broken.1 (ap made w.verdict-is) c.broken_at_start.ensures.held
       | in-None w ↦ open_sound none w.in-None.ensures.broken (ap made w.verdict-is) c.broken_at_start.ensures.held
