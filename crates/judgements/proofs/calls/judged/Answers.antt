@@ -1,5 +1,6 @@
-use Rattle.std.proofs.Common.{rules, ◌≡◌, refl, ap, ◌∙◌, inl, inr, Err}
+use Rattle.std.proofs.Common.{rules, ◌≡◌, true, refl, ap, ◌∙◌, inl, inr, Ok, Err, Result, is_ok, IfOk, MatchResult}
 use Rattle.std.proofs.lemmas.Result.{err_from_is_err_and}
+use Rattle.faults.specs.declared.case.CaseFault.{CaseFault}
 use Rattle.faults.specs.declared.case.CaseFault.TheVariants.{NoMemory}
 use Rattle.faults.specs.declared.work.WorkFault.TheVariants.{InCase}
 use Rattle.faults.proofs.Firsts.{unless_ok, unless_err}
@@ -39,11 +40,17 @@ returns-in_err-closed c =
     let memory = refused_memory _ c.args.bytes.now _ _ _ c.in_err-closed.field-0.0 c.in_err-closed.ensures.judged.0 (search rules) c.args.places (c.deref_mut.ensures.len ∙ c.in_ok-book.ensures.size) c.type_inv.bytes sound few in
     rw (p.1 ∙ ap Err (p.2 ∙ memory)) (inr (refl, none_refused c.args.bytes.now c.args.places sound few))
 
+-- what is so of a value is so of it handed on
+handed_on : {A E : Type 0} (r : Result A E) (P : A → Type 0) (Q : E → Type 0) (x : A) → true ≡ is_ok r → MatchResult r (λ y. ◌≡◌ {A = Result A CaseFault} (Ok x) (Ok y)) Q → IfOk r P → P x
+handed_on (Ok y) P Q x v e p = search rules
+handed_on (Err f) P Q x v e p = search rules
+
 pub returns : goal.returns
 returns c =
     let sound = unless_ok (case_fault c.args.bytes.now) tt tt c.in_ok-check_case.ensures.value in
     let few = c.if-places-gt-MOST_PLACES.false in
+    let made = handed_on c.new.result _ _ c.in_ok-map_err.field-0 c.in_ok-map_err.ensures.variant c.in_ok-map_err.ensures.cases c.new.ensures in
     let told = c.in_ok-closed.ensures.judged in (
       none_refused c.args.bytes.now c.args.places sound few,
-      told_judgement _ c.args.bytes.now _ _ _ _ told.0 told.1 (search rules) (search rules) c.args.places (c.deref_mut.ensures.len ∙ c.in_ok-book.ensures.size) c.new-2.result (search rules) (search rules) (search rules),
+      told_judgement _ c.args.bytes.now _ _ _ _ told.0 told.1 (c.new-solver.ensures.capacity ∙ made.1) (c.new-solver.ensures.held ∙ made.0) c.args.places (c.deref_mut.ensures.len ∙ c.in_ok-book.ensures.size) c.new-2.result (search rules) (search rules) (search rules),
     )
