@@ -1,13 +1,9 @@
 use Rattle.std.proofs.Common.{◌≡◌, ◌⊎◌, true, false, take, reverse, sym, ap, ◌∙◌, subst, inl, inr}
 use lib.Bits.{bit_or}
-use Rattle.std.proofs.lemmas.List.{take_all}
 use Rattle.analysis.specs.Conflicts.{is_choice, before_choice, Covers}
-use Rattle.analysis.proofs.Settling.{no_choice, covers_none, covers_more, settled_more, latest_first}
+use Rattle.analysis.proofs.Settling.{no_choice, covers_more, settled_more, latest_first}
 use Rattle.analysis.proofs.analyzing.settled.Goals as goal
 use Rattle.analysis.proofs.analyzing.settled.Goals.{in-Chosen, in_default, then-matches, else-matches}
-
-pub loop-decision-init : goal.loop-decision-init
-loop-decision-init c = record { known = covers_none; before = covers_none }
 
 pub loop-decision-preserved : goal.loop-decision-preserved
 loop-decision-preserved c =
@@ -28,6 +24,3 @@ loop-decision-preserved c =
       before = subst (λ es. Covers (before_choice es) c.if-matches.before) (sym next)
           (settled_more so_far d c.loop-decision.known c.loop-decision.before c.if-matches.before c.loop-decision.invariant.known c.loop-decision.invariant.before taken);
     }
-
-pub returns : goal.returns
-returns c = subst (λ es. Covers (before_choice (reverse es)) c.loop-decision.before) (take_all c.loop-decision.decision-index c.args.decisions.now c.loop-decision-test.false) c.loop-decision.invariant.before

@@ -1,7 +1,6 @@
-use Rattle.std.proofs.Common.{◌≡◌, ◌∙◌, arith, sym, subst, refl}
+use Rattle.std.proofs.Common.{◌∙◌, arith, sym, subst, refl}
 use Rattle.books.specs.Books.{Ready}
 use Rattle.learning.specs.Learning.{LiteralClosed, Initiated}
-use Rattle.sieve.specs.Trims.{Trimmed}
 use Rattle.sieve.proofs.Trims.{trimmed_none, trimmed_more, tried_marks}
 use Rattle.learning.proofs.learning.trim.Goals as goal
 
@@ -22,11 +21,3 @@ loop-relay-preserved g c =
           let tried = c.try_without.ensures.tried (subst (Ready s c.args.entries.now) (sym i.capacity) ready) before.0 in
           (tried_marks s.n closed good c.loop-relay.relay _ _ before.0 tried, trimmed_more s.n closed good c.loop-relay.relay _ _ _ before.1 tried);
     }
-
-pub returns-clause-trimmed : goal.returns-clause-trimmed
-returns-clause-trimmed g c =
-    λ ready marks.
-    let s = c.args.case.now in
-    let i = c.loop-relay.invariant in
-    let all : c.loop-relay.relay ≡ s.n = omega (arith, marks.0) in
-    subst (λ k. Trimmed s.n (LiteralClosed s c.args.entries.now c.args.state) (Initiated s c.args.state) k c.args.marks.now c.loop-relay.marks) all (i.trimmed ready marks).1

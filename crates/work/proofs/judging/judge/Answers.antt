@@ -23,9 +23,6 @@ returns-in-Err-clause-judged g c =
     judged (g.S.Solver.capacity c.args.solver.now) c.args.bytes.now c.type_inv.bytes c.args.book.now (g.S.Solver.held c.args.solver.now) (g.S.Solver.held c.open.new.solver) c.in_ok-work.work
     c.in_ok-work.ensures.opened last c.loop-work.invariant.turning (Some c.in-Err.fault) next (u, turned) c.close.result c.close.ensures.kept
 
-pub returns-in-Err-clause-capacity : goal.returns-in-Err-clause-capacity
-returns-in-Err-clause-capacity g c = c.turn.ensures.capacity ∙ c.loop-work.invariant.capacity
-
 pub loop-work-smaller : goal.loop-work-smaller
 loop-work-smaller g c =
     let u = undecided c.is_decided.result (decided c.loop-work.work.verdict) (c.is_decided.ensures ∙ ap (λ (w : Progress). decided w.verdict) c.work.view_is) c.loop-work-test.true in
@@ -49,6 +46,3 @@ returns-clause-judged g c =
     let last : Stage = record { work = c.loop-work.work; book = c.loop-work.book; held = g.S.Solver.held c.loop-work.solver } in
     judged (g.S.Solver.capacity c.args.solver.now) c.args.bytes.now c.type_inv.bytes c.args.book.now (g.S.Solver.held c.args.solver.now) (g.S.Solver.held c.open.new.solver) c.in_ok-work.work
     c.in_ok-work.ensures.opened last c.loop-work.invariant.turning None last (u, refl) c.close-2.result c.close-2.ensures.kept
-
-pub returns-clause-capacity : goal.returns-clause-capacity
-returns-clause-capacity g c = c.loop-work.invariant.capacity

@@ -1,4 +1,4 @@
-use Rattle.std.proofs.Common.{rules, sym, ap, ◌∙◌, subst}
+use Rattle.std.proofs.Common.{rules, sym, ◌∙◌, subst}
 use Rattle.lists.specs.Lists.{clauses_of}
 use Rattle.questions.specs.Questions.{InitialAgainst}
 use Rattle.questions.proofs.Whole.{whole}
@@ -32,12 +32,4 @@ returns-clause-broken g c =
           let asking = subst (Asking system) w.in-Some.ensures.steps i.asking in
           let broken = asking_broken system c.relays.ensures.admitted w.in-Some.clause.now (clauses_of c.next.new.self) asking w.initial_against-broken.result (whole (λ d. InitialAgainst system d w.initial_against-broken.result) _ _ (w.initial_against-broken.ensures.answer i.held)) (sym w.is_some.ensures ∙ w.if-is_some.true) in
           subst (BrokenAtStart system) (sym w.broken-is) broken)
-    ]
-
-pub returns-clause-capacity : goal.returns-clause-capacity
-returns-clause-capacity g c =
-    let i = c.clauses.invariant in
-    elim c.match-next.branch [
-      | in-None w ↦ c.wipe.ensures.capacity ∙ ap g.S.Solver.capacity w.solver-is ∙ i.capacity
-      | in-Some+then-is_some w ↦ c.wipe.ensures.capacity ∙ ap g.S.Solver.capacity w.solver-is ∙ w.initial_against-broken.ensures.capacity ∙ i.capacity
     ]

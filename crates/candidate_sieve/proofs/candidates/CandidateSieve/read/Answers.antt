@@ -2,13 +2,8 @@ use Rattle.std.proofs.Common.{ap}
 use Rattle.lists.specs.Lists.{clauses_of}
 use Rattle.clauses.specs.Candidates.{gathered}
 use Rattle.cases.proofs.Steps.{admitted_consecution}
-use Rattle.candidate_sieve.proofs.Reading.{candidates_formed, candidates_consecution}
+use Rattle.candidate_sieve.proofs.Reading.{candidates_consecution}
 use Rattle.candidate_sieve.proofs.candidates.CandidateSieve.read.Goals as goal
-
-pub invariant_of-result : goal.invariant_of-result
-invariant_of-result c =
-    let cs = clauses_of c.in_ok-list.list in
-    candidates_formed c.args.case.now cs ((c.read_list.ensures.law cs).0 (ap gathered c.in_ok-list.was)).0 c.read_list.ensures.admitted.relays.1
 
 pub returns-clause-consecution : goal.returns-clause-consecution
 returns-clause-consecution c =

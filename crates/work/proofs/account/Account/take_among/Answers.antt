@@ -1,11 +1,8 @@
-use Rattle.std.proofs.Common.{◌≤◌, length, take, sym, subst}
+use Rattle.std.proofs.Common.{length, take}
 use Rattle.lists.specs.Lists.{clauses_of}
 use Rattle.histories.specs.Calls.{Stage}
 use Rattle.work.proofs.Taken.{handed_sieved, took_full, took_stored}
 use Rattle.work.proofs.account.Account.take_among.Goals as goal
-
-pub count_marked-requires : goal.count_marked-requires
-count_marked-requires g c = subst (λ cs. length cs ≤ 512) (sym c.candidates-list.ensures) c.requires.listed.few
 
 pub returns-then-count_marked-self-clause-took : goal.returns-then-count_marked-self-clause-took
 returns-then-count_marked-self-clause-took g c =
