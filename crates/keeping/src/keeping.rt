@@ -1,5 +1,5 @@
 // A solver: it keeps its clauses in a storage and lets the engine answer.
-ghost use Rattle.std.specs.Prelude.{◌≡◌, [], IfOk};
+ghost use Rattle.std.specs.Prelude.{◌≡◌, true, [], IfOk};
 
 use crate::engine::Engine;
 use masks::Question;
@@ -7,11 +7,12 @@ use solver::{Answer, Capacity, NoCapacity, Solver};
 use std::alloc::{AllocError, Global};
 use storage::Storage;
 
-// A storage, and an engine that answers from it.
+// A storage, and an engine that answers from it, with memory for as much as the storage may hold.
 #[derive(Drop)]
-pub struct Keeping<E> {
+pub struct Keeping<E: Engine> {
     storage: Storage,
     engine: E,
+    ghost prepared: { E.Engine.prepared engine storage.capacity ≡ true },
 }
 
 impl<E: Engine> Keeping<E> {

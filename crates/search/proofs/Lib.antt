@@ -1,2 +1,5 @@
+mod Chains
+mod Linking
+mod Looking
 mod Stepping
 mod Watching

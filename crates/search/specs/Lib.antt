@@ -1,2 +1,4 @@
+pub mod Chains
+pub mod Looks
 pub mod Searches
 pub mod Watched

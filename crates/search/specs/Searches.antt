@@ -7,11 +7,12 @@ use Rattle.masks.specs.declared.question.Question.{Question}
 use Rattle.masks.specs.declared.mask.ClauseMask.{ClauseMask}
 use Rattle.masks.specs.declared.mask.Standing.{Standing}
 use Rattle.masks.specs.declared.mask.Standing.TheVariants.{True, Open, Forces, False}
-use Rattle.trail.specs.Entries.{entries, made_true}
+use Rattle.trail.specs.Entries.{entries, made_true, handed_out}
 use Rattle.trail.specs.Changes.{Appended}
 use Rattle.trail.specs.Reasons.{Refuted, Sound, height}
 use Rattle.trail.specs.declared.decision.Decision.{Decision}
 use Rattle.trail.specs.declared.decision.Forcing.TheVariants.{Chosen, Forced}
+use Rattle.search.specs.Watched.{Idle}
 use Rattle.search.specs.declared.learned.TheConstants.{MOST}
 use Rattle.search.specs.declared.progress.Progress.{Progress}
 use Rattle.search.specs.declared.progress.Progress.TheVariants.{Satisfied, Further}
@@ -57,6 +58,14 @@ Keeps premise before after = (base : List (List ℕ)) → premise base → Uphel
 -- wherever the premise holds and they do so, nothing can be true
 abbrev pub Refutes : (List (List ℕ) → Type 0) → Search → Type 0
 Refutes premise s = (base : List (List ℕ)) → premise base → Upheld base s → Hopeless base
+
+-- a search that has not begun: nothing is decided, nothing is learned, and nothing is watched
+pub record Fresh (s : Search) : Type 0 where
+  pub undecided : entries s.trail ≡ []
+  pub first : handed_out s.trail ≡ 0
+  pub unlearned : vec_items s.learned.clauses ≡ []
+  pub unwatched : Idle s.watches
+  pub idle : Idle s.learned.watches
 
 -- the last clause that was learned is what forced the last decision
 abbrev pub Taught : Search → Type 0

@@ -1,9 +1,10 @@
 // What is done to the cache of learned clauses.
-ghost use Rattle.std.specs.Prelude.{◌≡◌, ℕ, ◌<◌, List, [], ◌∷◌, ◌++◌, vec_len};
+ghost use Rattle.std.specs.Prelude.{◌≡◌, ℕ, ◌-◌, ◌<◌, List, [], ◌∷◌, ◌++◌, vec_len};
 ghost use Rattle.masks.specs.Masks.{Implied};
 ghost use Rattle.masks.specs.Questions.{Each};
 ghost use Rattle.masks.specs.declared.mask.ClauseMask.{ClauseMask};
 ghost use Rattle.search.specs.Searches.{Roomy};
+ghost use Rattle.search.specs.Watched.{watched, literal_by, Idle};
 
 use crate::learned::{Learned, MOST};
 use crate::watches::Watches;
@@ -20,7 +21,8 @@ impl Learned {
 
     // Lets all go.
     pub fn clear(&mut self)
-        ensures { self.new.clauses.items ≡ [] }
+        ensures none { self.new.clauses.items ≡ [] }
+        ensures idle { Idle self.new.watches }
     {
         self.clauses.clear();
         self.watches.clear();
@@ -40,6 +42,7 @@ impl Learned {
     // Keeps the clause, watched by two of its variables, and lets the others go where there is no room.
     pub fn remember(&mut self, clause: ClauseMask, one: u8, other: u8)
         ensures last { (earlier : List ClauseMask) × Roomy self.old.clauses.items earlier × (self.new.clauses.items ≡ earlier ++ clause ∷ []) }
+        ensures watched { (links : List (ℕ × ℕ)) × (watched self.new.watches ≡ links ++ (vec_len self.new.clauses - 1, literal_by clause one) ∷ (vec_len self.new.clauses - 1, literal_by clause other) ∷ []) }
         ensures each { (base : List (List ℕ)) → Each base self.old.clauses.items → Implied base clause → Each base self.new.clauses.items }
     {
         self.make_room();

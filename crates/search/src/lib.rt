@@ -5,6 +5,7 @@
 mod engine;
 mod learned;
 mod learning;
+mod links;
 mod progress;
 mod propagation;
 mod search;

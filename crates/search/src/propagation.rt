@@ -1,12 +1,14 @@
 // Unit propagation.
-ghost use Rattle.std.specs.Prelude.{◌≡◌, ℕ, not, List};
+ghost use Rattle.std.specs.Prelude.{◌≡◌, ℕ, not, List, length, vec_items};
 ghost use Rattle.system.specs.Spelling.{literal_of};
 ghost use Rattle.masks.specs.Masks.{Implied};
 ghost use Rattle.masks.specs.Questions.{Each};
 ghost use Rattle.masks.specs.Standings.{Stands};
 ghost use Rattle.trail.specs.Entries.{entries, made_true, handed_out};
 ghost use Rattle.trail.specs.Reasons.{Sound};
+ghost use Rattle.search.specs.Looks.{Named, LookedAt};
 ghost use Rattle.search.specs.Searches.{Extends, Conflict, Brings, Upheld, Keeps};
+ghost use Rattle.search.specs.Watched.{room, Stays};
 
 use crate::search::Search;
 use crate::watches::Watches;
@@ -43,13 +45,16 @@ fn follow(
     watches: &mut Watches,
     literal: u8,
 ) -> Option<ClauseMask>
+    requires { Named (vec_items watches.old.links) (length masks.now) }
     ensures more { Extends (entries trail.old) (entries trail.new) }
     ensures sound { (base : List (List ℕ)) → Each base masks.now → Sound base (entries trail.old) → Sound base (entries trail.new) }
     ensures found { Conflict (entries trail.new) (λ base. Each base masks.now) result }
     ensures done { handed_out trail.new ≡ handed_out trail.old }
+    ensures stays { Stays watches.old watches.new }
+    ensures looked { result ≡ None → LookedAt (vec_items watches.old.links) literal masks.now (entries trail.old) (entries trail.new) }
 {
     let mut at = watches.first(literal);
-    // stays a counted loop: no contract tells that the links of a literal go round in no circle
+    // as many turns as there are links are enough, since no link comes twice
     for _turn in 0..watches.len() {
         let mask = *masks.get(watches.clause(at)?)?;
         let stood = visit(trail, mask);
@@ -66,6 +71,8 @@ impl Search {
     pub(crate) fn sweep(&mut self, masks: &[ClauseMask]) -> Option<ClauseMask>
         ensures keeps { Keeps (λ base. Each base masks.now) self.old self.new }
         ensures found { Conflict (entries self.new.trail) (λ base. Each base masks.now) result }
+        ensures named { Named (vec_items self.old.watches.links) (length masks.now) → Named (vec_items self.new.watches.links) (length masks.now) }
+        ensures room { room self.new.watches ≡ room self.old.watches }
     {
         for (clause, mask) in masks.iter().enumerate() {
             let stood = visit(&mut self.trail, *mask);
@@ -80,9 +87,11 @@ impl Search {
 
     // Looks at the clauses of the literals that became false, to the last decision or a clause that is all false.
     pub(crate) fn propagate(&mut self, masks: &[ClauseMask]) -> Option<ClauseMask>
+        requires { Named (vec_items self.old.watches.links) (length masks.now) }
         ensures more { Extends (entries self.old.trail) (entries self.new.trail) }
         ensures keeps { Keeps (λ base. Each base masks.now) self.old self.new }
         ensures found { Conflict (entries self.new.trail) (λ base. Each base masks.now × Upheld base self.old) result }
+        ensures stays { Stays self.old.watches self.new.watches }
     {
         while let Some(decision) = self.trail.advance() {
             let literal = falsified(decision);

@@ -1,13 +1,14 @@
 // The search: propagate, learn from a conflict and jump back, or choose, until all is true or nothing can be.
-ghost use Rattle.std.specs.Prelude.{◌≡◌, ℕ, ◌<◌, true, reverse, IfOk, MatchResult};
+ghost use Rattle.std.specs.Prelude.{◌≡◌, ℕ, ◌^◌, ◌*◌, ◌-◌, ◌<◌, true, min, length, reverse, IfOk, MatchResult, vec_items};
 ghost use Rattle.system.specs.Literals.{bit};
 ghost use Rattle.masks.specs.Masks.{Implied};
 ghost use Rattle.masks.specs.Questions.{Units, Decided};
 ghost use Rattle.masks.specs.Standings.{Unassigned};
 ghost use Rattle.trail.specs.Entries.{entries, made_true};
 ghost use Rattle.trail.specs.Reasons.{Refuted};
-ghost use Rattle.search.specs.Searches.{Conflict, Asked, Occurring, Keeps, Refutes, Taught, Chooses, Rises, Satisfies, Turned};
-ghost use Rattle.search.specs.Watched.{first_other};
+ghost use Rattle.search.specs.Searches.{Conflict, Asked, Occurring, Keeps, Refutes, Taught, Chooses, Rises, Satisfies, Turned, Fresh};
+ghost use Rattle.search.specs.Watched.{first_other, room, Stays};
+ghost use Rattle.search.specs.Looks.{Named};
 
 use crate::learned::Learned;
 use crate::progress::{Progress, Unsatisfiable};
@@ -33,7 +34,9 @@ fn latest(decisions: &[Decision], clause: ClauseMask, but: u8) -> u8
 
 impl Search {
     // Reserves all the memory that it will use, for so many held clauses.
-    pub fn new(heap: Global, clauses: usize) -> Result<Search, AllocError> {
+    pub fn new(heap: Global, clauses: usize) -> Result<Search, AllocError>
+        ensures { IfOk result (λ s. room s.watches ≡ min (clauses * 2) (2 ^ 64 - 1)) }
+    {
         let trail = Trail::new(heap)?;
         let learned = Learned::new(heap)?;
         let watches = Watches::new(heap, clauses)?;
@@ -50,6 +53,7 @@ impl Search {
         ensures keeps { Keeps (λ base. Implied base conflict) self.old self.new }
         ensures taught { IfOk result (λ _. Taught self.new) }
         ensures cases { MatchResult result (λ _. Rises self.old self.new) (λ _. Refutes (λ base. Implied base conflict) self.old) }
+        ensures kept { self.new.watches ≡ self.old.watches }
     {
         let jump = analyze(&self.trail, conflict).ok_or(Unsatisfiable)?;
         let variable = jump.literal.variable;
@@ -67,6 +71,7 @@ impl Search {
         ensures keeps { Keeps (λ base. Unit {0}) self.old self.new }
         ensures rises { Rises self.old self.new }
         ensures chosen { Chooses candidates (entries self.old.trail) (entries self.new.trail) }
+        ensures kept { self.new.watches ≡ self.old.watches }
     {
         let literal = Literal {
             variable: candidates.trailing_zeros() as u8,
@@ -81,6 +86,7 @@ impl Search {
         requires { Occurring question occurring }
         ensures keeps { Keeps (Asked question.entry) self.old self.new }
         ensures cases { MatchResult result (Turned question.entry self.old self.new) (λ _. Refutes (Asked question.entry) self.old) }
+        ensures kept { self.new.watches ≡ self.old.watches }
     {
         let assigned = self.trail.assigned();
         let unknown = without(occurring, assigned.variables());
@@ -97,9 +103,11 @@ impl Search {
 
     // Propagates, and then learns from a conflict or decides.
     fn turn(&mut self, question: Question, occurring: u128) -> Result<Progress, Unsatisfiable>
-        requires { Occurring question occurring }
+        requires occurring { Occurring question occurring }
+        requires named { Named (vec_items self.old.watches.links) (length question.masks.now) }
         ensures keeps { Keeps (Asked question.entry) self.old self.new }
         ensures cases { MatchResult result (Turned question.entry self.old self.new) (λ _. Refutes (Asked question.entry) self.old) }
+        ensures stays { Stays self.old.watches self.new.watches }
     {
         if let Some(conflict) = self.propagate(question.masks) {
             self.learn(conflict)?;
@@ -112,6 +120,7 @@ impl Search {
     fn assume(&mut self, assumed: &[u8]) -> Option<ClauseMask>
         ensures keeps { Keeps (λ base. Units base assumed.now) self.old self.new }
         ensures found { Conflict (entries self.new.trail) (λ base. Units base assumed.now) result }
+        ensures kept { self.new.watches ≡ self.old.watches }
     {
         for literal in assumed {
             let mask = ClauseMask::NONE.with_literal(*literal);
@@ -128,6 +137,8 @@ impl Search {
     fn begin(&mut self, question: Question) -> Result<(), Unsatisfiable>
         ensures keeps { Keeps (Asked question.entry) self.old self.new }
         ensures cases { MatchResult result (λ _. Unit {0}) (λ _. Refutes (Asked question.entry) self.old) }
+        ensures named { Named (vec_items self.old.watches.links) (length question.entry.masks.now) → Named (vec_items self.new.watches.links) (length question.entry.masks.now) }
+        ensures room { room self.new.watches ≡ room self.old.watches }
     {
         if let Some(conflict) = self.assume(question.assumed) {
             return self.learn(conflict);
@@ -140,7 +151,9 @@ impl Search {
 
     // Searches until the trail satisfies every clause and assumed literal.
     fn searched(&mut self, question: Question) -> Result<(), Unsatisfiable>
-        ensures { MatchResult result (λ _. Satisfies self.new question.entry) (λ _. Refutes (Asked question.entry) self.old) }
+        requires { Fresh self.old }
+        ensures cases { MatchResult result (λ _. Satisfies self.new question.entry) (λ _. Refutes (Asked question.entry) self.old) }
+        ensures room { room self.new.watches ≡ room self.old.watches }
     {
         let occurring = question.variables();
         self.begin(question)?;
@@ -154,7 +167,8 @@ impl Search {
 
     // The answer to the question.
     pub fn answer(&mut self, question: Question) -> Answer
-        ensures { Decided question.entry result }
+        ensures answer { Decided question.entry result }
+        ensures room { room self.new.watches ≡ room self.old.watches }
     {
         self.trail.clear();
         self.learned.clear();

@@ -1,4 +1,10 @@
-use Rattle.std.proofs.Common.{◌∙◌}
+use Rattle.std.proofs.Common.{◌≡◌, ℕ, length, ◌∙◌, [], refl, sym, vec_items, arith, append-nil}
+use Rattle.trail.specs.Entries.{entries, made_true}
+use Rattle.search.specs.Chains.{link_at}
+use Rattle.search.specs.Watched.{room, Stays}
+use Rattle.search.specs.declared.watches.Watches.{Watches}
+use Rattle.search.proofs.Linking.{numbers_same}
+use Rattle.search.proofs.Looking.{walking_first, walking_on, walked_off, at_hand}
 use Rattle.search.proofs.Stepping.{extends_trans, each_at}
 use Rattle.search.proofs.propagation.follow.Goals as goal
 
@@ -9,7 +15,55 @@ loop-turn-preserved c =
       more = extends_trans _ _ _ c.loop-turn.invariant.more c.visit-stood.ensures.more;
       sound = λ base each sound. c.visit-stood.ensures.sound base (each_at base c.args.masks.now _ _ each found.3.0 found.1) (c.loop-turn.invariant.sound base each sound);
       done = c.visit-stood.ensures.done ∙ c.loop-turn.invariant.done;
+      room = c.advance-at.ensures.room ∙ c.loop-turn.invariant.room;
+      walking =
+          walking_on (vec_items c.args.watches.now.links) c.args.literal c.args.masks.now (entries c.args.trail.now) (entries c.loop-turn.trail) c.loop-turn.watches.heads
+          (vec_items c.loop-turn.watches.links) c.loop-turn.at c.loop-turn._turn c.loop-turn.invariant.walking c.in_ok-clause.field-0 c.in_ok-mask.field-0.now
+          (made_true c.loop-turn.trail) c.visit-stood.result (entries c.visit-stood.new.trail) _ _ _ c.in_ok-clause.ensures.some c.in_ok-clause.ensures.none found.3.0 found.1
+          c.loop-turn.invariant.more c.loop-turn.trail.spelled c.visit-stood.ensures.stood c.visit-stood.ensures.brings c.visit-stood.ensures.more c.in_default.not-False
+          c.advance-at.ensures.walks c.advance-at.ensures.many c.advance-at.ensures.clauses;
     }
+
+pub loop-turn-init : goal.loop-turn-init
+loop-turn-init c =
+    let w = c.args.watches.now in
+    record {
+      more = ([], sym (append-nil (entries c.args.trail.now)));
+      sound = λ base each sound. sound;
+      done = refl;
+      room = refl;
+      walking = walking_first (vec_items w.links) c.args.literal c.args.masks.now (entries c.args.trail.now) w.heads c.first-at.result _ c.first-at.ensures.walks (w.linked c.args.literal c.ranges.literal.fits);
+    }
+
+-- each link stays of its clause
+stays : (w v : Watches) → length (vec_items v.links) ≡ length (vec_items w.links) → ((q : ℕ) → (link_at (vec_items v.links) q).clause ≡ (link_at (vec_items w.links) q).clause) → room v ≡ room w → Stays w v
+stays w v many same room = record { clauses = numbers_same w v many same; space = room }
+
+pub returns-in_err-clause-clause-stays : goal.returns-in_err-clause-clause-stays
+returns-in_err-clause-clause-stays c = let i = c.loop-turn.invariant in stays c.args.watches.now c.loop-turn.watches i.walking.many i.walking.clauses i.room
+
+pub returns-in_err-mask-clause-stays : goal.returns-in_err-mask-clause-stays
+returns-in_err-mask-clause-stays c = let i = c.loop-turn.invariant in stays c.args.watches.now c.loop-turn.watches i.walking.many i.walking.clauses i.room
+
+pub returns-in-False-clause-stays : goal.returns-in-False-clause-stays
+returns-in-False-clause-stays c = let i = c.loop-turn.invariant in stays c.args.watches.now c.loop-turn.watches i.walking.many i.walking.clauses i.room
+
+pub returns-clause-stays : goal.returns-clause-stays
+returns-clause-stays c = let i = c.loop-turn.invariant in stays c.args.watches.now c.loop-turn.watches i.walking.many i.walking.clauses i.room
+
+pub returns-in_err-clause-clause-looked : goal.returns-in_err-clause-clause-looked
+returns-in_err-clause-clause-looked c none =
+    walked_off (vec_items c.args.watches.now.links) c.args.literal c.args.masks.now (entries c.args.trail.now) (entries c.loop-turn.trail) c.loop-turn.watches.heads
+    (vec_items c.loop-turn.watches.links) c.loop-turn.at c.loop-turn._turn c.loop-turn.invariant.walking c.in_err-clause.ensures.some
+
+pub returns-in_err-mask-clause-looked : goal.returns-in_err-mask-clause-looked
+returns-in_err-mask-clause-looked c none q m h e =
+    let (p, qs, f, i, k) =
+    at_hand (vec_items c.args.watches.now.links) c.args.literal c.args.masks.now (entries c.args.trail.now) (entries c.loop-turn.trail) c.loop-turn.watches.heads
+    (vec_items c.loop-turn.watches.links) c.loop-turn.at c.loop-turn._turn c.loop-turn.invariant.walking c.in_ok-clause.field-0 c.in_ok-clause.ensures.some c.in_ok-clause.ensures.none in
+    let small = c.requires p i in
+    let large = c.in_err-mask.ensures.lookup.3 in
+    absurd (let z : ⊥ = omega arith in z)
 
 pub returns-in-False-clause-sound : goal.returns-in-False-clause-sound
 returns-in-False-clause-sound c base each sound =

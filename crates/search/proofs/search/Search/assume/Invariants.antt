@@ -1,6 +1,7 @@
+use Rattle.std.proofs.Common.{◌≡◌}
 use Rattle.masks.specs.Questions.{Units}
 use Rattle.search.specs.Searches.{Keeps}
 use Rattle.search.proofs.search.Search.assume.Given as goal
 
 abbrev pub invariant-loop-literal : goal.invariant-loop-literal
-invariant-loop-literal l = Keeps (λ base. Units base l.assumed) l.initial.self l.self
+invariant-loop-literal l = record { keeps : Keeps (λ base. Units base l.assumed) l.initial.self l.self; kept : l.self.watches ≡ l.initial.self.watches }

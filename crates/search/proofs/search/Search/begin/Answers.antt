@@ -1,4 +1,8 @@
+use Rattle.std.proofs.Common.{length, vec_items, sym, ap, ◌∙◌, subst}
 use Rattle.std.proofs.lemmas.Result.{MatchResult-weaker}
+use Rattle.search.specs.Looks.{Named}
+use Rattle.search.specs.Watched.{room}
+use Rattle.search.specs.declared.watches.Watches.{Watches}
 use Rattle.search.proofs.search.Search.begin.Goals as goal
 
 pub returns-in-Some : goal.returns-in-Some
@@ -7,6 +11,8 @@ returns-in-Some c =
     record {
       keeps = λ base given up. c.learn.ensures.keeps base (found base given.1) (c.assume.ensures.keeps base given.1 up);
       cases = MatchResult-weaker c.learn.result c.learn.ensures.cases (λ x h. tt) (λ x f base given up. f base (found base given.1) (c.assume.ensures.keeps base given.1 up));
+      named = subst (λ (w : Watches). Named (vec_items w.links) (length c.args.question.masks.now)) (sym (c.learn.ensures.kept ∙ c.assume.ensures.kept));
+      room = ap room (c.learn.ensures.kept ∙ c.assume.ensures.kept);
     }
 
 pub returns-in-Some-sweep : goal.returns-in-Some-sweep
@@ -16,6 +22,10 @@ returns-in-Some-sweep c =
       keeps = λ base given up. c.learn-in-Some-sweep.ensures.keeps base (found base given.0) (c.sweep.ensures.keeps base given.0 (c.assume.ensures.keeps base given.1 up));
       cases = MatchResult-weaker c.learn-in-Some-sweep.result c.learn-in-Some-sweep.ensures.cases (λ x h. tt)
           (λ x f base given up. f base (found base given.0) (c.sweep.ensures.keeps base given.0 (c.assume.ensures.keeps base given.1 up)));
+      named = λ named.
+          subst (λ (w : Watches). Named (vec_items w.links) (length c.args.question.masks.now)) (sym c.learn-in-Some-sweep.ensures.kept)
+          (c.sweep.ensures.named (subst (λ (w : Watches). Named (vec_items w.links) (length c.args.question.masks.now)) (sym c.assume.ensures.kept) named));
+      room = ap room c.learn-in-Some-sweep.ensures.kept ∙ c.sweep.ensures.room ∙ ap room c.assume.ensures.kept;
     }
 
 pub returns-clause-keeps : goal.returns-clause-keeps

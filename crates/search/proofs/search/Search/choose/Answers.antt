@@ -1,4 +1,4 @@
-use Rattle.std.proofs.Common.{◌^◌, ◌<◌, arith}
+use Rattle.std.proofs.Common.{◌^◌, ◌<◌, refl, arith}
 use Rattle.system.proofs.Bits.{lowest}
 use Rattle.trail.specs.Entries.{entries}
 use Rattle.trail.proofs.Deciding.{free_in}
@@ -17,5 +17,6 @@ returns c =
     record {
       keeps = λ base given up. (sound_appended base ds es _ _ _ made up.0 tt, up.1);
       chosen = record { lowest = _; is = l.is; first = l.first; made = made };
+      kept = refl;
       rises = height_chosen ds es _ _ _ t.once l.small free made;
     }

@@ -32,6 +32,7 @@ returns-in_err-learn c =
     record {
       keeps = λ base given. c.learn.ensures.keeps base (implied base given);
       cases = MatchResult-from_err c.from_residual.result _ _ c.from_residual.ensures.0 (λ x base given. c.in_err-learn.ensures.cases base (implied base given));
+      kept = c.learn.ensures.kept;
     }
 
 pub returns-clause-keeps : goal.returns-clause-keeps

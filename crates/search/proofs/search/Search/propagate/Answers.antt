@@ -1,10 +1,12 @@
-use Rattle.std.proofs.Common.{sym, subst, arith}
+use Rattle.std.proofs.Common.{vec_items, vec_len, sym, subst, arith}
 use Rattle.masks.specs.Questions.{Each}
 use Rattle.trail.specs.Entries.{entries}
 use Rattle.trail.specs.Reasons.{Sound}
 use Rattle.trail.proofs.Deciding.{at_most}
+use Rattle.search.specs.Looks.{Named}
 use Rattle.search.specs.Searches.{Extends}
 use Rattle.search.proofs.Stepping.{extends_trans}
+use Rattle.search.proofs.Linking.{stays_trans, named_kept, named_pairs}
 use Rattle.search.proofs.search.Search.propagate.Goals as goal
 
 pub returns-in-Some-follow-clause-keeps : goal.returns-in-Some-follow-clause-keeps
@@ -40,9 +42,18 @@ loop-decision-preserved c =
                 (c.follow.ensures.sound base each (subst (Sound base) (sym c.advance.ensures.entries) kept.0)),
             kept.1,
           );
+      stays = stays_trans _ _ _ c.loop-decision.invariant.stays c.follow.ensures.stays;
     }
 
 pub loop-decision-smaller : goal.loop-decision-smaller
 loop-decision-smaller c =
     let m = at_most (entries c.loop-decision.self.trail) c.loop-decision.self.trail.once in
     omega (arith, c.in-Some.ensures.found, c.follow.ensures.done, c.follow-in-Some.ensures.done)
+
+pub follow-requires : goal.follow-requires
+follow-requires c = named_kept c.args.self.now.watches c.loop-decision.self.watches _ c.loop-decision.invariant.stays c.requires
+
+pub follow-requires-in-Some : goal.follow-requires-in-Some
+follow-requires-in-Some c =
+    let l = c.loop-decision.self.learned in
+    subst (Named (vec_items l.watches.links)) (sym c.as_slice.ensures.len) (named_pairs l.watches (vec_len l.clauses) l.watched)

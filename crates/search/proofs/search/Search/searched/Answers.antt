@@ -1,13 +1,14 @@
-use Rattle.std.proofs.Common.{arith}
+use Rattle.std.proofs.Common.{◌∙◌, arith}
 use Rattle.std.proofs.lemmas.Result.{MatchResult-from_err}
 use Rattle.trail.specs.Entries.{entries}
 use Rattle.trail.proofs.Standing.{height_below}
+use Rattle.search.proofs.Linking.{named_kept}
 use Rattle.search.proofs.search.Search.searched.Goals as goal
 
-pub returns-in_err-turn : goal.returns-in_err-turn
-returns-in_err-turn c =
+pub returns-in_err-turn-clause-cases : goal.returns-in_err-turn-clause-cases
+returns-in_err-turn-clause-cases c =
     MatchResult-from_err c.from_residual-in_err-turn.result _ _ c.from_residual-in_err-turn.ensures.0
-    (λ x base given up. c.in_err-turn.ensures.cases base given (c.turns.invariant base given (c.begin.ensures.keeps base given up)))
+    (λ x base given up. c.in_err-turn.ensures.cases base given (c.turns.invariant.keeps base given (c.begin.ensures.keeps base given up)))
 
 pub turns-smaller : goal.turns-smaller
 turns-smaller c =
@@ -16,4 +17,4 @@ turns-smaller c =
     omega (arith, e)
 
 pub turns-preserved : goal.turns-preserved
-turns-preserved c base given up = c.turn.ensures.keeps base given (c.turns.invariant base given up)
+turns-preserved c = record { keeps = λ base given up. c.turn.ensures.keeps base given (c.turns.invariant.keeps base given up); named = named_kept c.turns.self.watches c.turn.new.self.watches _ c.turn.ensures.stays c.turns.invariant.named; room = c.turn.ensures.stays.space ∙ c.turns.invariant.room }

@@ -1,5 +1,6 @@
-use Rattle.std.proofs.Common.{arith}
+use Rattle.std.proofs.Common.{sym, subst, arith}
 use Rattle.std.proofs.lemmas.Result.{MatchResult-from_err, MatchResult-weaker}
+use Rattle.search.specs.Watched.{Stays}
 use Rattle.search.proofs.Stepping.{climbs, turned_later}
 use Rattle.search.proofs.search.Search.turn.Goals as goal
 
@@ -10,6 +11,7 @@ returns-in_err-learn c =
       keeps = λ base given up. c.learn.ensures.keeps base (found base (given.0, up)) (c.propagate.ensures.keeps base given.0 up);
       cases = MatchResult-from_err c.from_residual.result _ _ c.from_residual.ensures.0
           (λ x base given up. c.in_err-learn.ensures.cases base (found base (given.0, up)) (c.propagate.ensures.keeps base given.0 up));
+      stays = subst (Stays c.args.self.now.watches) (sym c.learn.ensures.kept) c.propagate.ensures.stays;
     }
 
 pub returns-in-Some : goal.returns-in-Some
@@ -18,6 +20,7 @@ returns-in-Some c =
     record {
       keeps = λ base given up. c.learn.ensures.keeps base (found base (given.0, up)) (c.propagate.ensures.keeps base given.0 up);
       cases = omega (arith, c.in_ok-learn.ensures.cases, climbs _ _ c.propagate.ensures.more);
+      stays = subst (Stays c.args.self.now.watches) (sym c.learn.ensures.kept) c.propagate.ensures.stays;
     }
 
 pub returns : goal.returns
@@ -27,4 +30,5 @@ returns c =
       cases = MatchResult-weaker c.decide.result c.decide.ensures.cases
           (turned_later c.args.question c.args.self.now c.propagate.new.self c.decide.new.self c.propagate.ensures.more)
           (λ x f base given up. f base given (c.propagate.ensures.keeps base given.0 up));
+      stays = subst (Stays c.args.self.now.watches) (sym c.decide.ensures.kept) c.propagate.ensures.stays;
     }

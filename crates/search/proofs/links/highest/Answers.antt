@@ -1,6 +1,6 @@
 use Rattle.std.proofs.Common.{◌^◌, ◌<◌, arith}
 use Rattle.search.proofs.Watching.{highest_of}
-use Rattle.search.proofs.watches.highest.Goals as goal
+use Rattle.search.proofs.links.highest.Goals as goal
 
 pub returns-clause-highest : goal.returns-clause-highest
 returns-clause-highest c =

@@ -1,0 +1,33 @@
+use Rattle.std.proofs.Common.{vec_items, refl, ap, arith}
+use Rattle.search.specs.declared.watches.Link.{Link}
+use Rattle.search.proofs.Chains.{walk_at, walk_held, walk_on, walk_moved, same_place, read_at}
+use Rattle.search.proofs.watches.Watches.advance.Goals as goal
+
+pub index-link-requires : goal.index-link-requires
+index-link-requires c =
+    let s = c.args.self.now in
+    let (rest, w) = walk_at s.heads (vec_items s.links) c.args.at c.in-Some.place c.requires.0 c.in-Some.is c.requires.1 in
+    let h = walk_held s.heads (vec_items s.links) c.args.at c.in-Some.place rest w in
+    omega (arith, s.links.ok.0)
+
+pub relink-requires-clause-is : goal.relink-requires-clause-is
+relink-requires-clause-is c =
+    let s = c.args.self.now in
+    let (rest, w) = walk_at s.heads (vec_items s.links) c.args.at c.in-Some.place c.requires.0 c.in-Some.is c.requires.1 in
+    read_at (vec_items s.links) c.in-Some.place c.index-link.result.now (walk_held s.heads (vec_items s.links) c.args.at c.in-Some.place rest w) c.index-link.ensures
+
+pub returns-then-literal-at-clause-walks : goal.returns-then-literal-at-clause-walks
+returns-then-literal-at-clause-walks c p qs w =
+    let s = c.args.self.now in
+    let v = same_place s.heads (vec_items s.links) c.args.at c.in-Some.place p qs c.in-Some.is w in
+    let h = walk_held s.heads (vec_items s.links) c.args.at c.in-Some.place qs v in
+    walk_on s.heads (vec_items s.links) c.args.at _ c.in-Some.place qs refl refl
+    (ap (λ (x : Link). x.next) (read_at (vec_items s.links) c.in-Some.place c.index-link.result.now h c.index-link.ensures)) v
+
+pub returns-clause-walks : goal.returns-clause-walks
+returns-clause-walks c p qs w =
+    let s = c.args.self.now in
+    let v = same_place s.heads (vec_items s.links) c.args.at c.in-Some.place p qs c.in-Some.is w in
+    let h = walk_held s.heads (vec_items s.links) c.args.at c.in-Some.place qs v in
+    walk_moved s.heads _ (vec_items s.links) _ c.args.at c.in-Some.place c.match-stood.literal c.relink.ensures.moved c.if-literal-at.false qs v _ refl refl
+    (ap (λ (x : Link). x.next) (read_at (vec_items s.links) c.in-Some.place c.index-link.result.now h c.index-link.ensures))
