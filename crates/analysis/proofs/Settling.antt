@@ -5,7 +5,7 @@ use mathlib.Core.Bool.{beq, or-false}
 use Rattle.std.proofs.lemmas.Bool.{cases_eq, eq-eqb, ne_eqb}
 use Rattle.std.proofs.lemmas.List.{take_more, reverse-append}
 use Rattle.system.specs.Literals.{bit}
-use Rattle.system.proofs.Bits.{bit_none, bit_of_or}
+use Rattle.system.proofs.Bits.{bit_of_or}
 use Rattle.masks.proofs.Sets.{bit_of}
 use Rattle.trail.specs.Decisions.{has}
 use Rattle.trail.specs.declared.decision.Decision.{Decision}
@@ -17,9 +17,6 @@ pub no_choice : (f : Forcing) → (f ≡ Chosen → ⊥) → is_choice f ≡ fal
 no_choice Assumed n = refl
 no_choice Chosen n = absurd (n refl)
 no_choice (Forced m) n = refl
-
-pub covers_none : Covers [] 0
-covers_none j = bit_none j
 
 -- one more decision gives its variable either value
 either : (q b t f : Bool) → ((t || f) || q) ≡ (((q && beq b true) || t) || ((q && beq b false) || f))

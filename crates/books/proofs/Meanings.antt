@@ -1,5 +1,5 @@
 -- Clauses in which no variable occurs with both signs, and the entry of such a clause, which is true just where the clause is. Assumes nothing.
-use Rattle.std.proofs.Common.{◌≡◌, ℕ, ◌/◌, ◌%◌, ◌<◌, ◌↔◌, Bool, true, false, ◌||◌, T, List, [], ◌∷◌, sym, ap, ◌∙◌, subst, inl, inr, zero-add, arith, nat_eq}
+use Rattle.std.proofs.Common.{◌≡◌, ℕ, ◌/◌, ◌%◌, ◌<◌, Bool, true, false, ◌||◌, T, List, [], ◌∷◌, sym, ap, ◌∙◌, subst, inl, inr, zero-add, arith, nat_eq}
 use Rattle.std.proofs.Math.Dec.{T_not, not_T}
 use Rattle.std.proofs.lemmas.Bool.{true≢false, eq-eqb, eqb-true, cases_eq, ne_eqb}
 use Rattle.system.specs.Literals.{Valuation, bit, variable_of, clause, Member}
@@ -113,7 +113,3 @@ module _ (k : Kind) (d : List ℕ) (over : OverRelays 32 d) (one : Consistent d)
           let n = subst (λ x. Member x d) e m in
           subst (λ x. Member x (clause_of (entry_of k d))) (sym e)
           (put false (T_false _ (not_T _ (λ y. one i (contains_member d (literal_of i true) y) n))) (or_r _ _ (member_contains d (literal_of i false) n)))
-
-  -- and is true where the clause is
-  pub entry_means : (a : Valuation) → T (clause a (clause_of (entry_of k d))) ↔ T (clause a d)
-  entry_means a = (clause_part a (clause_of (entry_of k d)) d entry_part, clause_part a d (clause_of (entry_of k d)) part_entry)

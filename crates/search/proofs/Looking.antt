@@ -120,14 +120,6 @@ module _ (was : List Link) (l : ℕ) (ms : List ClauseMask) (ds es : List Decisi
           one q (inr o) (inr n) = inr (λ x. looked_later (get_or ms (link_at was q).clause x) ds es fs (o x) more)
           one q (inl t) (inr n) = inl (let f : tally q w.rest ≡ tally q (p ∷ qs) = ap (tally q) e in let g = tally_other q p qs n in omega arith)
 
-  -- as many turns as there are links are enough
-  pub walked_all : length was ≤ turns → LookedAt was l ms ds es
-  walked_all h = walked (go w.rest refl)
-    where
-      go : (rest : List ℕ) → w.rest ≡ rest → w.rest ≡ []
-      go [] e = e
-      go (q ∷ qs) e = let n = ap length e in let f = w.few in absurd (let z : ⊥ = omega arith in z)
-
   -- and so is a walk at whose place there is no link
   pub walked_off : ((p : ℕ) → at.place ≡ Some p → p < length links → None ≡ Some (link_at links p).clause) → LookedAt was l ms ds es
   walked_off some = walked (go w.rest refl)

@@ -1,6 +1,5 @@
 -- The candidates that the descent ends on are inductive together, no such set has more, and their entries are their clauses. Assumes nothing.
-use Rattle.std.proofs.Common.{◌≡◌, ℕ, ◌<◌, ◌≤◌, Bool, true, false, cond, T, List, [], ◌∷◌, map, length, get_or, refl, ap, subst, inl, inr, arith, nat_eq}
-use Rattle.std.proofs.lemmas.List.{length-map}
+use Rattle.std.proofs.Common.{◌≡◌, ℕ, ◌<◌, T, List, [], ◌∷◌, map, get_or, refl, ap, subst, inl, inr}
 use Rattle.system.specs.Literals.{bit, clause, clauses, Member}
 use Rattle.system.specs.Systems.{System, Initiation}
 use Rattle.system.proofs.Truth.{clauses_each, clauses_all, all_place}
@@ -49,15 +48,6 @@ map_member f [] x m = absurd m
 map_member f (y ∷ xs) x (inl e) = inl (ap f e)
 map_member f (y ∷ xs) x (inr m) = inr (map_member f xs x m)
 
-chosen_length : (M : List ℕ) (ds : List (List ℕ)) → length (chosen M ds) ≤ length ds
-chosen_length [] ds = omega arith
-chosen_length (x ∷ M) [] = omega arith
-chosen_length (x ∷ M) (d ∷ ds) = go (nat_eq x 1) (chosen_length M ds)
-  where
-    go : (b : Bool) → length (chosen M ds) ≤ length ds → length (cond b (d ∷ chosen M ds) (chosen M ds)) ≤ length (d ∷ ds)
-    go true h = omega arith
-    go false h = omega arith
-
 -- the entries of the marked candidates
 module _ (ds : List (List ℕ)) (M : List ℕ) where
   pub taken_member : (e : Entry) → Member e (taken_entries ds M) → (d : List ℕ) × Member d (chosen M ds) × (e ≡ entry_of Taken d)
@@ -65,9 +55,3 @@ module _ (ds : List (List ℕ)) (M : List ℕ) where
 
   pub member_taken : (d : List ℕ) → Member d (chosen M ds) → Member (entry_of Taken d) (taken_entries ds M)
   member_taken = map_member (entry_of Taken) (chosen M ds)
-
-  pub taken_length : length (taken_entries ds M) ≡ length (chosen M ds)
-  taken_length = length-map (chosen M ds) (entry_of Taken)
-
-  pub taken_few : length (taken_entries ds M) ≤ length ds
-  taken_few = let e = taken_length in let l = chosen_length M ds in omega arith
