@@ -1,5 +1,5 @@
 -- The links of each literal, chained from the head of the literal on.
-use Rattle.std.specs.Prelude.{◌≡◌, ℕ, zero, suc, ◌+◌, ◌<◌, ◌&&◌, ◌==◌, cond, List, [], ◌∷◌, length, Option, Some, None, slice_index_or, nat_lt}
+use Rattle.std.specs.Prelude.{◌≡◌, ℕ, zero, suc, ◌+◌, ◌-◌, ◌/◌, ◌%◌, ◌^◌, ◌<◌, ◌&&◌, ◌==◌, cond, List, [], ◌∷◌, length, Option, Some, None, slice_index_or, nat_lt}
 use Rattle.std.proofs.Props.{props}
 use Rattle.search.specs.declared.watches.Cursor.{Cursor}
 use Rattle.search.specs.declared.watches.Link.{Link}
@@ -7,6 +7,14 @@ use Rattle.search.specs.declared.watches.Link.{Link}
 -- the link at a place of the table
 abbrev pub link_at : List Link → ℕ → Link
 link_at links p = slice_index_or links p (record { clause = 0; literal = 0; next = None })
+
+-- the place of the other link of the same clause: the two stand side by side
+abbrev pub beside : ℕ → ℕ
+beside p = cond (p % 2 == 0) (p + 1) (p - 1)
+
+-- the variable of that link's literal as a bit, or 0 where there is no such link; variables count modulo 128
+abbrev pub partner_of : List Link → ℕ → ℕ
+partner_of links p = cond (nat_lt (beside p) (length links)) (2 ^ ((link_at links (beside p)).literal / 2 % 128)) 0
 
 -- the first link of a literal
 abbrev pub head_of : List (Option ℕ) → ℕ → Option ℕ

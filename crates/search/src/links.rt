@@ -1,6 +1,6 @@
 // What is done to the watched literals.
 ghost use Rattle.std.specs.Prelude.{◌≡◌, ℕ, ◌^◌, ◌*◌, ◌-◌, ◌<◌, List, ◌∷◌, length, min, IfOk, vec_items, vec_capacity};
-ghost use Rattle.search.specs.Chains.{At, Moved, Unlinked, chain_of, link_at};
+ghost use Rattle.search.specs.Chains.{At, Moved, Unlinked, chain_of, link_at, partner_of};
 ghost use Rattle.search.specs.Watched.{Highest, watched, room, Idle, added, literal_by, both, Begun};
 
 use crate::watches::{Cursor, Link, Watches};
@@ -163,7 +163,9 @@ impl Watches {
     }
 
     // The variable of the other link of the same clause, as a bit.
-    fn partner(&self, place: usize) -> u128 {
+    fn partner(&self, place: usize) -> u128
+        ensures { result ≡ partner_of (vec_items self.now.links) place }
+    {
         let other = if place % 2 == 0 { place + 1 } else { place - 1 };
         self.links
             .get(other)
