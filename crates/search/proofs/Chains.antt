@@ -366,6 +366,13 @@ pub walk_first : (heads : List (Option ℕ)) (ls : List Link) (at : Cursor) (qs 
 walk_first heads ls at qs f g c =
     record { front = []; chain = c; before = f; place = g ∙ runs_first ls (head_of heads at.literal) qs c.runs }
 
+-- the link at which a walk is is of the literal that is walked
+pub walk_own : (heads : List (Option ℕ)) (ls : List Link) (at : Cursor) (p : ℕ) (qs : List ℕ) → At heads ls at (p ∷ qs) → (link_at ls p).literal ≡ at.literal
+walk_own heads ls at p qs w =
+    let t = tally_onto p w.front (p ∷ qs) in
+    let s = tally_same p p qs refl in
+    (owned_in ls at.literal p (let o = w.chain.once p in omega arith)).1
+
 -- the place at which a walk is, and the one before it, are in the table
 pub walk_held : (heads : List (Option ℕ)) (ls : List Link) (at : Cursor) (p : ℕ) (qs : List ℕ) → At heads ls at (p ∷ qs) → p < length ls
 walk_held heads ls at p qs w =

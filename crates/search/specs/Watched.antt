@@ -81,3 +81,21 @@ Begun m known clause room True before after = after ≡ before
 Begun m known clause room Open before after = Begins m known clause room before after
 Begun m known clause room (Forces l) before after = after ≡ before
 Begun m known clause room False before after = after ≡ before
+
+-- the literal l is of the highest of the variables of the clause that have no value and are not the partner's
+pub record Moves (m : ClauseMask) (known partner l : ℕ) : Type 0 where
+  pub free : ℕ
+  pub is : (j : ℕ) → bit free j ≡ ((inside m j true || inside m j false) && not (bit known j))
+  pub rest : ℕ
+  pub others : (j : ℕ) → bit rest j ≡ (bit free j && not (bit partner j))
+  pub other : ℕ
+  pub small : other < 128
+  pub highest : Highest rest other
+  pub literal : l ≡ literal_by m other
+
+-- a link of a clause that is open comes to be of that literal, and else it stays of the one that it was of
+abbrev pub Advanced : ClauseMask → ℕ → ℕ → Standing → ℕ → ℕ → Type 0
+Advanced m known partner True before after = after ≡ before
+Advanced m known partner Open before after = Moves m known partner after
+Advanced m known partner (Forces l) before after = after ≡ before
+Advanced m known partner False before after = after ≡ before

@@ -1,7 +1,7 @@
 // What is done to the watched literals.
 ghost use Rattle.std.specs.Prelude.{◌≡◌, ℕ, ◌^◌, ◌*◌, ◌-◌, ◌<◌, List, ◌∷◌, length, min, IfOk, vec_items, vec_capacity};
 ghost use Rattle.search.specs.Chains.{At, Moved, Unlinked, chain_of, link_at, partner_of};
-ghost use Rattle.search.specs.Watched.{Highest, watched, room, Idle, added, literal_by, both, Begun};
+ghost use Rattle.search.specs.Watched.{Highest, watched, room, Idle, added, literal_by, both, Begun, Advanced};
 
 use crate::watches::{Cursor, Link, Watches};
 use masks::{ClauseMask, Standing, has_variable, set_of, without};
@@ -136,17 +136,14 @@ impl Watches {
         ensures many { length (vec_items self.new.links) ≡ length (vec_items self.old.links) }
         ensures clauses { (p : ℕ) → (link_at (vec_items self.new.links) p).clause ≡ (link_at (vec_items self.old.links) p).clause }
         ensures literals { (p : ℕ) → (at.place ≡ Some p → ⊥) → (link_at (vec_items self.new.links) p).literal ≡ (link_at (vec_items self.old.links) p).literal }
+        ensures moves { (p : ℕ) → at.place ≡ Some p → Advanced mask known (partner_of (vec_items self.old.links) p) stood (link_at (vec_items self.old.links) p).literal (link_at (vec_items self.new.links) p).literal }
         ensures room { room self.new ≡ room self.old }
     {
         let Some(place) = at.place else {
             return at;
         };
         let link = self.links[place];
-        let mut literal = at.literal;
-        if let Standing::Open = stood {
-            let open = without(mask.variables(), known);
-            literal = literal_in(mask, highest(without(open, self.partner(place))));
-        }
+        let literal = self.next_literal(place, at.literal, mask, stood, known);
         // a link that stays is passed
         if literal == at.literal {
             return Cursor {
@@ -160,6 +157,24 @@ impl Watches {
             place: link.next,
             ..at
         }
+    }
+
+    // The literal that the link comes to be of: that of the highest open variable but the partner's where the clause is open.
+    fn next_literal(
+        &self,
+        place: usize,
+        literal: u8,
+        mask: ClauseMask,
+        stood: Standing,
+        known: u128,
+    ) -> u8
+        ensures { Advanced mask known (partner_of (vec_items self.now.links) place) stood literal result }
+    {
+        if let Standing::Open = stood {
+            let open = without(mask.variables(), known);
+            return literal_in(mask, highest(without(open, self.partner(place))));
+        }
+        literal
     }
 
     // The variable of the other link of the same clause, as a bit.

@@ -1,6 +1,8 @@
-use Rattle.std.proofs.Common.{vec_items, refl, ap, arith}
+use Rattle.std.proofs.Common.{◌≡◌, ℕ, vec_items, refl, sym, ap, subst, arith}
+use Rattle.search.specs.Chains.{link_at, partner_of}
+use Rattle.search.specs.Watched.{Advanced}
 use Rattle.search.specs.declared.watches.Link.{Link}
-use Rattle.search.proofs.Chains.{walk_at, walk_held, walk_on, walk_moved, same_place, read_at}
+use Rattle.search.proofs.Chains.{walk_at, walk_held, walk_own, walk_on, walk_moved, same_place, read_at}
 use Rattle.search.proofs.watches.Watches.advance.Goals as goal
 
 pub index-link-requires : goal.index-link-requires
@@ -29,5 +31,30 @@ returns-clause-walks c p qs w =
     let s = c.args.self.now in
     let v = same_place s.heads (vec_items s.links) c.args.at c.in-Some.place p qs c.in-Some.is w in
     let h = walk_held s.heads (vec_items s.links) c.args.at c.in-Some.place qs v in
-    walk_moved s.heads _ (vec_items s.links) _ c.args.at c.in-Some.place c.match-stood.literal c.relink.ensures.moved c.if-literal-at.false qs v _ refl refl
+    walk_moved s.heads _ (vec_items s.links) _ c.args.at c.in-Some.place c.next_literal-literal.result c.relink.ensures.moved c.if-literal-at.false qs v _ refl refl
     (ap (λ (x : Link). x.next) (read_at (vec_items s.links) c.in-Some.place c.index-link.result.now h c.index-link.ensures))
+
+pub returns-then-literal-at-clause-moves : goal.returns-then-literal-at-clause-moves
+returns-then-literal-at-clause-moves c p e =
+    let s = c.args.self.now in
+    let ls = vec_items s.links in
+    let at = c.args.at in
+    let place = c.in-Some.place in
+    let (rest, w) = walk_at s.heads ls at place c.requires.0 c.in-Some.is c.requires.1 in
+    let same : place ≡ p = cc in
+    let stays = subst (Advanced c.args.mask c.args.known (partner_of ls place) c.args.stood at.literal) c.if-literal-at.true c.next_literal-literal.ensures in
+    subst (λ (q : ℕ). Advanced c.args.mask c.args.known (partner_of ls q) c.args.stood (link_at ls q).literal (link_at ls q).literal) same
+    (subst (λ (l : ℕ). Advanced c.args.mask c.args.known (partner_of ls place) c.args.stood l l) (sym (walk_own s.heads ls at place rest w)) stays)
+
+pub returns-clause-moves : goal.returns-clause-moves
+returns-clause-moves c p e =
+    let s = c.args.self.now in
+    let ls = vec_items s.links in
+    let ks = vec_items c.relink.new.self.links in
+    let at = c.args.at in
+    let place = c.in-Some.place in
+    let (rest, w) = walk_at s.heads ls at place c.requires.0 c.in-Some.is c.requires.1 in
+    let same : place ≡ p = cc in
+    let moved = subst (Advanced c.args.mask c.args.known (partner_of ls place) c.args.stood at.literal) (sym c.relink.ensures.moved.literal) c.next_literal-literal.ensures in
+    subst (λ (q : ℕ). Advanced c.args.mask c.args.known (partner_of ls q) c.args.stood (link_at ls q).literal (link_at ks q).literal) same
+    (subst (λ (l : ℕ). Advanced c.args.mask c.args.known (partner_of ls place) c.args.stood l (link_at ks place).literal) (sym (walk_own s.heads ls at place rest w)) moved)
