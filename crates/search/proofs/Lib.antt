@@ -1,5 +1,6 @@
 mod Chains
 mod Linking
 mod Looking
+mod Settling
 mod Stepping
 mod Watching

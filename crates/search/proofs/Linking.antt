@@ -79,6 +79,13 @@ clause_at w q = get_or-map (λ (l : Link). l.clause) (vec_items w.links) q _
 many : (w : Watches) → length (numbers w) ≡ length (vec_items w.links)
 many w = length-map (vec_items w.links) (λ (l : Link). l.clause)
 
+-- both are the same where each link stays of its clause
+pub stays_many : (w v : Watches) → Stays w v → length (vec_items v.links) ≡ length (vec_items w.links)
+stays_many w v s = sym (many v) ∙ ap length s.clauses ∙ many w
+
+pub stays_clause : (w v : Watches) → Stays w v → (q : ℕ) → (link_at (vec_items v.links) q).clause ≡ (link_at (vec_items w.links) q).clause
+stays_clause w v s q = sym (clause_at v q) ∙ ap (λ xs. get_or xs q 0) s.clauses ∙ clause_at w q
+
 -- the clauses of the links are numbers below n where these are
 pub named_by : (w : Watches) (n : ℕ) → ((q : ℕ) → q < length (numbers w) → get_or (numbers w) q 0 < n) → Named (vec_items w.links) n
 named_by w n f q h = let e = clause_at w q in let l = many w in let g = f q (omega arith) in omega arith

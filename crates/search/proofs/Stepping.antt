@@ -1,6 +1,6 @@
 -- The steps of a search, by what they do to the trail and to what is implied. Assumes nothing.
-use Rattle.std.proofs.Common.{◌≡◌, ℕ, ◌<◌, ◌≤◌, Bool, true, false, not, ◌&&◌, ◌||◌, ◌⊎◌, List, [], ◌∷◌, ◌++◌, length, get_or, take, sym, ap, ◌∙◌, subst, inl, inr, arith}
-use Rattle.std.proofs.lemmas.List.{append_assoc, get_or_append_left, get_or_push, length_push}
+use Rattle.std.proofs.Common.{◌≡◌, ℕ, ◌<◌, ◌≤◌, Bool, true, false, not, ◌&&◌, ◌||◌, ◌⊎◌, List, [], ◌∷◌, ◌++◌, length, get_or, take, sym, ap, ◌∙◌, subst, inl, inr, arith, append-nil}
+use Rattle.std.proofs.lemmas.List.{append_assoc, get_or_append_left, get_or_push, length_push, length-append}
 use Rattle.std.proofs.lemmas.Bool.{cases_Bool, cases_lt, and_from, or_cases}
 use Rattle.system.specs.Literals.{bit}
 use Rattle.system.proofs.Bits.{bit_none}
@@ -47,6 +47,13 @@ pub height_changed : (ds es : List Decision) (to v : ℕ) (b : Bool) (m : Clause
 height_changed ds es to v b m once within chosen made =
     let l = at_most ds once in
     subst (λ xs. height 128 ds < height 128 xs) (sym made.is) (height_jump 128 ds to made.made made.made within (omega arith) (chosen made.made) (ap digit made.forcing))
+
+-- none were added
+pub extends_same : (ds es : List Decision) → ds ≡ es → Extends ds es
+extends_same ds es e = ([], sym e ∙ sym (append-nil ds))
+
+pub extends_length : (ds es : List Decision) → Extends ds es → length ds ≤ length es
+extends_length ds es (more, e) = let f = ap length e in let g = length-append ds more in omega arith
 
 -- decisions were added, and then more
 pub extends_trans : (ds es fs : List Decision) → Extends ds es → Extends es fs → Extends ds fs

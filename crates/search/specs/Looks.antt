@@ -1,13 +1,17 @@
--- Which clauses propagation looks at.
-use Rattle.std.specs.Prelude.{◌≡◌, ℕ, ◌<◌, List, length, slice_index_or}
+-- Which clauses propagation looks at, and what it leaves behind.
+use Rattle.std.specs.Prelude.{◌≡◌, ℕ, ◌<◌, ◌≤◌, Bool, true, false, not, ◌⊎◌, List, length, slice_index_or, vec_items}
+use Rattle.system.specs.Spelling.{literal_of}
+use Rattle.masks.specs.Masks.{inside}
 use Rattle.masks.specs.Standings.{Stands}
 use Rattle.masks.specs.declared.mask.ClauseMask.{ClauseMask}
 use Rattle.masks.specs.declared.mask.Standing.{Standing}
 use Rattle.masks.specs.declared.mask.Standing.TheVariants.{False}
-use Rattle.trail.specs.Decisions.{Spells}
+use Rattle.trail.specs.Decisions.{has, Spells}
+use Rattle.trail.specs.Entries.{entries, handed_out}
 use Rattle.trail.specs.declared.decision.Decision.{Decision}
 use Rattle.search.specs.Chains.{link_at}
 use Rattle.search.specs.Searches.{Extends, Brings}
+use Rattle.search.specs.declared.search.Search.{Search}
 use Rattle.search.specs.declared.watches.Link.{Link}
 
 -- on the way from the decisions ds to es the clause was looked at: it was not all false then, and what it brought was done
@@ -30,3 +34,29 @@ Named links n = (q : ℕ) → q < length links → (link_at links q).clause < n
 -- so it was with the clause of each link of the literal
 abbrev pub LookedAt : List Link → ℕ → List ClauseMask → List Decision → List Decision → Type 0
 LookedAt links l ms ds es = (q : ℕ) (m : ClauseMask) → q < length links → (link_at links q).literal ≡ l → Looked (slice_index_or ms (link_at links q).clause m) ds es
+
+-- a literal of the clause is true by the decisions, or it has both literals of a variable and so is true whatever is decided
+abbrev pub Settled : ClauseMask → List Decision → Type 0
+Settled m es = ((j : ℕ) × (b : Bool) × (inside m j b ≡ true) × (has es j b ≡ true)) ⊎ ((j : ℕ) × (inside m j true ≡ true) × (inside m j false ≡ true))
+
+-- after the links of the literal l were followed: each link that is now of a literal that the decisions ds make false is of a
+-- clause that is settled by the decisions es, or it was of that literal before, which is another than l
+abbrev pub Settles : List Link → List Link → ℕ → List ClauseMask → List Decision → List Decision → Type 0
+Settles was now l ms ds es =
+    (q v : ℕ) (b : Bool) (m : ClauseMask) → q < length now → has ds v b ≡ true → (link_at now q).literal ≡ literal_of v (not b)
+    → Settled (slice_index_or ms (link_at now q).clause m) es ⊎ (((link_at was q).literal ≡ (link_at now q).literal) × ((link_at now q).literal ≡ l → ⊥))
+
+-- of the decisions es those from the place a on and before the place b leave no watched literal false behind: each link of the
+-- literal that one of them makes false is of a clause that is settled by es
+abbrev pub NoneBehind : List Link → List ClauseMask → List Decision → ℕ → ℕ → Type 0
+NoneBehind links ms es a b =
+    (j q : ℕ) (d : Decision) (m : ClauseMask) → a ≤ j → j < b → q < length links
+    → (link_at links q).literal ≡ literal_of (slice_index_or es j d).variable (not (slice_index_or es j d).value)
+    → Settled (slice_index_or ms (link_at links q).clause m) es
+
+-- propagation came to its end: every decision was handed out, and those from the place a on leave no watched literal false
+-- behind, neither of a held clause nor of a learned one
+pub record Propagated (held : List ClauseMask) (a : ℕ) (s : Search) : Type 0 where
+  pub all : length (entries s.trail) ≤ handed_out s.trail
+  pub of_held : NoneBehind (vec_items s.watches.links) held (entries s.trail) a (length (entries s.trail))
+  pub of_learned : NoneBehind (vec_items s.learned.watches.links) (vec_items s.learned.clauses) (entries s.trail) a (length (entries s.trail))

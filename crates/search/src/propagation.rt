@@ -6,7 +6,7 @@ ghost use Rattle.masks.specs.Questions.{Each};
 ghost use Rattle.masks.specs.Standings.{Stands};
 ghost use Rattle.trail.specs.Entries.{entries, made_true, handed_out};
 ghost use Rattle.trail.specs.Reasons.{Sound};
-ghost use Rattle.search.specs.Looks.{Named, LookedAt};
+ghost use Rattle.search.specs.Looks.{Named, LookedAt, Settles, Propagated};
 ghost use Rattle.search.specs.Searches.{Extends, Conflict, Brings, Upheld, Keeps};
 ghost use Rattle.search.specs.Watched.{room, Stays};
 
@@ -52,6 +52,7 @@ fn follow(
     ensures done { handed_out trail.new ≡ handed_out trail.old }
     ensures stays { Stays watches.old watches.new }
     ensures looked { result ≡ None → LookedAt (vec_items watches.old.links) literal masks.now (entries trail.old) (entries trail.new) }
+    ensures settled { result ≡ None → Settles (vec_items watches.old.links) (vec_items watches.new.links) literal masks.now (entries trail.old) (entries trail.new) }
 {
     let mut at = watches.first(literal);
     // as many turns as there are links are enough, since no link comes twice
@@ -92,6 +93,7 @@ impl Search {
         ensures keeps { Keeps (λ base. Each base masks.now) self.old self.new }
         ensures found { Conflict (entries self.new.trail) (λ base. Each base masks.now × Upheld base self.old) result }
         ensures stays { Stays self.old.watches self.new.watches }
+        ensures propagated { result ≡ None → Propagated masks.now (handed_out self.old.trail) self.new }
     {
         while let Some(decision) = self.trail.advance() {
             let literal = falsified(decision);

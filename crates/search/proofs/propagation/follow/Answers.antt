@@ -4,8 +4,8 @@ use Rattle.search.specs.Chains.{link_at}
 use Rattle.search.specs.Watched.{room, Stays}
 use Rattle.search.specs.declared.watches.Watches.{Watches}
 use Rattle.search.proofs.Linking.{numbers_same}
-use Rattle.search.proofs.Looking.{walking_first, walking_on, walked_off, at_hand}
-use Rattle.search.proofs.Stepping.{extends_trans, each_at}
+use Rattle.search.proofs.Looking.{walking_first, walking_on, walked, walked_all, walked_off, all_settled, at_hand}
+use Rattle.search.proofs.Stepping.{spells_of, extends_trans, each_at}
 use Rattle.search.proofs.propagation.follow.Goals as goal
 
 pub loop-turn-preserved : goal.loop-turn-preserved
@@ -19,9 +19,9 @@ loop-turn-preserved c =
       walking =
           walking_on (vec_items c.args.watches.now.links) c.args.literal c.args.masks.now (entries c.args.trail.now) (entries c.loop-turn.trail) c.loop-turn.watches.heads
           (vec_items c.loop-turn.watches.links) c.loop-turn.at c.loop-turn._turn c.loop-turn.invariant.walking c.in_ok-clause.field-0 c.in_ok-mask.field-0.now
-          (made_true c.loop-turn.trail) c.visit-stood.result (entries c.visit-stood.new.trail) _ _ _ c.in_ok-clause.ensures.some c.in_ok-clause.ensures.none found.3.0 found.1
+          (made_true c.loop-turn.trail) c.visit-stood.result (entries c.visit-stood.new.trail) c.assigned.result c.variables.result _ _ _ c.in_ok-clause.ensures.some c.in_ok-clause.ensures.none found.3.0 found.1
           c.loop-turn.invariant.more c.loop-turn.trail.spelled c.visit-stood.ensures.stood c.visit-stood.ensures.brings c.visit-stood.ensures.more c.in_default.not-False
-          c.advance-at.ensures.walks c.advance-at.ensures.many c.advance-at.ensures.clauses;
+          c.advance-at.ensures.walks c.advance-at.ensures.many c.advance-at.ensures.clauses c.advance-at.ensures.literals c.advance-at.ensures.moves (spells_of c.visit-stood.new.trail c.assigned.result c.assigned.ensures) c.variables.ensures;
     }
 
 pub loop-turn-init : goal.loop-turn-init
@@ -51,13 +51,41 @@ returns-in-False-clause-stays c = let i = c.loop-turn.invariant in stays c.args.
 pub returns-clause-stays : goal.returns-clause-stays
 returns-clause-stays c = let i = c.loop-turn.invariant in stays c.args.watches.now c.loop-turn.watches i.walking.many i.walking.clauses i.room
 
+-- at a place where there is no link
 pub returns-in_err-clause-clause-looked : goal.returns-in_err-clause-clause-looked
 returns-in_err-clause-clause-looked c none =
-    walked_off (vec_items c.args.watches.now.links) c.args.literal c.args.masks.now (entries c.args.trail.now) (entries c.loop-turn.trail) c.loop-turn.watches.heads
-    (vec_items c.loop-turn.watches.links) c.loop-turn.at c.loop-turn._turn c.loop-turn.invariant.walking c.in_err-clause.ensures.some
+    walked (vec_items c.args.watches.now.links) c.args.literal c.args.masks.now (entries c.args.trail.now) (entries c.loop-turn.trail) c.loop-turn.watches.heads
+    (vec_items c.loop-turn.watches.links) c.loop-turn.at c.loop-turn._turn c.loop-turn.invariant.walking
+    (walked_off (vec_items c.args.watches.now.links) c.args.literal c.args.masks.now (entries c.args.trail.now) (entries c.loop-turn.trail) c.loop-turn.watches.heads
+    (vec_items c.loop-turn.watches.links) c.loop-turn.at c.loop-turn._turn c.loop-turn.invariant.walking c.in_err-clause.ensures.some)
 
+pub returns-in_err-clause-clause-settled : goal.returns-in_err-clause-clause-settled
+returns-in_err-clause-clause-settled c none =
+    all_settled (vec_items c.args.watches.now.links) c.args.literal c.args.masks.now (entries c.args.trail.now) (entries c.loop-turn.trail) c.loop-turn.watches.heads
+    (vec_items c.loop-turn.watches.links) c.loop-turn.at c.loop-turn._turn c.loop-turn.invariant.walking
+    (walked_off (vec_items c.args.watches.now.links) c.args.literal c.args.masks.now (entries c.args.trail.now) (entries c.loop-turn.trail) c.loop-turn.watches.heads
+    (vec_items c.loop-turn.watches.links) c.loop-turn.at c.loop-turn._turn c.loop-turn.invariant.walking c.in_err-clause.ensures.some)
+
+-- after as many turns as there are links
+pub returns-clause-settled : goal.returns-clause-settled
+returns-clause-settled c none =
+    all_settled (vec_items c.args.watches.now.links) c.args.literal c.args.masks.now (entries c.args.trail.now) (entries c.loop-turn.trail) c.loop-turn.watches.heads
+    (vec_items c.loop-turn.watches.links) c.loop-turn.at c.loop-turn._turn c.loop-turn.invariant.walking
+    (walked_all (vec_items c.args.watches.now.links) c.args.literal c.args.masks.now (entries c.args.trail.now) (entries c.loop-turn.trail) c.loop-turn.watches.heads
+    (vec_items c.loop-turn.watches.links) c.loop-turn.at c.loop-turn._turn c.loop-turn.invariant.walking (omega arith))
+
+-- each link is of a clause that there is
 pub returns-in_err-mask-clause-looked : goal.returns-in_err-mask-clause-looked
 returns-in_err-mask-clause-looked c none q m h e =
+    let (p, qs, f, i, k) =
+    at_hand (vec_items c.args.watches.now.links) c.args.literal c.args.masks.now (entries c.args.trail.now) (entries c.loop-turn.trail) c.loop-turn.watches.heads
+    (vec_items c.loop-turn.watches.links) c.loop-turn.at c.loop-turn._turn c.loop-turn.invariant.walking c.in_ok-clause.field-0 c.in_ok-clause.ensures.some c.in_ok-clause.ensures.none in
+    let small = c.requires p i in
+    let large = c.in_err-mask.ensures.lookup.3 in
+    absurd (let z : ⊥ = omega arith in z)
+
+pub returns-in_err-mask-clause-settled : goal.returns-in_err-mask-clause-settled
+returns-in_err-mask-clause-settled c none q v b m h t e =
     let (p, qs, f, i, k) =
     at_hand (vec_items c.args.watches.now.links) c.args.literal c.args.masks.now (entries c.args.trail.now) (entries c.loop-turn.trail) c.loop-turn.watches.heads
     (vec_items c.loop-turn.watches.links) c.loop-turn.at c.loop-turn._turn c.loop-turn.invariant.walking c.in_ok-clause.field-0 c.in_ok-clause.ensures.some c.in_ok-clause.ensures.none in
