@@ -87,6 +87,7 @@ impl Search {
     }
 
     // Looks at the clauses of the literals that became false, to the last decision or a clause that is all false.
+    #[tactic(auto, using(trail::proofs::Deciding::at_most))]
     pub(crate) fn propagate(&mut self, masks: &[ClauseMask]) -> Option<ClauseMask>
         requires { Named (vec_items self.old.watches.links) (length masks.now) }
         ensures more { Extends (entries self.old.trail) (entries self.new.trail) }

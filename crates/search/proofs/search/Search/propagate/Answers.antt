@@ -2,7 +2,6 @@ use Rattle.std.proofs.Common.{◌+◌, min, length, vec_items, vec_len, sym, ap,
 use Rattle.masks.specs.Questions.{Each}
 use Rattle.trail.specs.Entries.{entries, handed_out}
 use Rattle.trail.specs.Reasons.{Sound}
-use Rattle.trail.proofs.Deciding.{at_most}
 use Rattle.search.specs.Looks.{Named, Settles}
 use Rattle.search.specs.Searches.{Extends}
 use Rattle.search.proofs.Stepping.{extends_same, extends_length, extends_trans}
@@ -98,11 +97,6 @@ returns-clause-propagated c none =
       of_held = behind_later (vec_items s.watches.links) c.args.masks.now (entries s.trail) (entries c.advance.new.self) a (length (entries c.advance.new.self)) k later (omega arith) (omega arith) c.loop-decision.invariant.of_held;
       of_learned = behind_later (vec_items s.learned.watches.links) (vec_items s.learned.clauses) (entries s.trail) (entries c.advance.new.self) a (length (entries c.advance.new.self)) k later (omega arith) (omega arith) c.loop-decision.invariant.of_learned;
     }
-
-pub loop-decision-smaller : goal.loop-decision-smaller
-loop-decision-smaller c =
-    let m = at_most (entries c.loop-decision.self.trail) c.loop-decision.self.trail.once in
-    omega (arith, c.in-Some.ensures.found, c.follow.ensures.done, c.follow-in-Some.ensures.done)
 
 pub follow-requires : goal.follow-requires
 follow-requires c = named_kept c.args.self.now.watches c.loop-decision.self.watches _ c.loop-decision.invariant.stays c.requires
