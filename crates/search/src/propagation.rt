@@ -94,6 +94,7 @@ impl Search {
         ensures keeps { Keeps (λ base. Each base masks.now) self.old self.new }
         ensures found { Conflict (entries self.new.trail) (λ base. Each base masks.now × Upheld base self.old) result }
         ensures stays { Stays self.old.watches self.new.watches }
+        ensures learned { vec_items self.new.learned.clauses ≡ vec_items self.old.learned.clauses }
         ensures propagated { result ≡ None → Propagated masks.now (handed_out self.old.trail) self.new }
     {
         while let Some(decision) = self.trail.advance() {

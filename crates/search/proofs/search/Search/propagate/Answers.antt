@@ -43,6 +43,7 @@ loop-decision-preserved c =
             kept.1,
           );
       stays = stays_trans _ _ _ c.loop-decision.invariant.stays c.follow.ensures.stays;
+      learned = c.loop-decision.invariant.learned;
       of_held =
           let w = c.loop-decision.self.watches in
           let ds = entries c.loop-decision.self.trail in
