@@ -3,4 +3,5 @@ mod Linking
 mod Looking
 mod Settling
 mod Stepping
+mod Sweeping
 mod Watching

@@ -22,7 +22,7 @@ use Rattle.search.proofs.Settling.{has_more, settled_later, looked_settled, one_
 use Rattle.search.proofs.Stepping.{extends_trans}
 
 -- what was looked at stays so
-pub looked_later : (m : ClauseMask) (ds es fs : List Decision) → Looked m ds es → Extends es fs → Looked m ds fs
+abbrev pub looked_later : (m : ClauseMask) (ds es fs : List Decision) → Looked m ds es → Extends es fs → Looked m ds fs
 looked_later m ds es fs o e =
     record {
       before = o.before;

@@ -1,5 +1,6 @@
 -- Which clauses propagation looks at, and what it leaves behind.
-use Rattle.std.specs.Prelude.{◌≡◌, ℕ, ◌<◌, ◌≤◌, Bool, true, false, not, ◌⊎◌, List, length, slice_index_or, vec_items}
+use Rattle.std.specs.Prelude.{◌≡◌, ℕ, ◌<◌, ◌≤◌, Bool, true, false, not, ◌||◌, ◌⊎◌, List, ◌++◌, length, slice_index_or, vec_items}
+use Rattle.system.specs.Literals.{bit}
 use Rattle.system.specs.Spelling.{literal_of}
 use Rattle.masks.specs.Masks.{inside}
 use Rattle.masks.specs.Standings.{Stands}
@@ -10,6 +11,7 @@ use Rattle.trail.specs.Decisions.{has, Spells}
 use Rattle.trail.specs.Entries.{entries, handed_out}
 use Rattle.trail.specs.declared.decision.Decision.{Decision}
 use Rattle.search.specs.Chains.{link_at}
+use Rattle.search.specs.Watched.{Begun}
 use Rattle.search.specs.Searches.{Extends, Brings}
 use Rattle.search.specs.declared.search.Search.{Search}
 use Rattle.search.specs.declared.watches.Link.{Link}
@@ -26,6 +28,22 @@ pub record Looked (m : ClauseMask) (ds es : List Decision) : Type 0 where
   pub brings : Brings m before stood after
   pub left : Extends after es
   pub not_false : stood ≡ False → ⊥
+
+-- the first pass over clause k: it was looked at, and where it was open, two literals of it came to be watched, those of the
+-- highest of its variables that had no value
+pub record Swept (m : ClauseMask) (k room : ℕ) (ds es : List Decision) (links : List (ℕ × ℕ)) : Type 0 where
+  pub looked : Looked m ds es
+  pub known : ℕ
+  pub of_known : (j : ℕ) → bit known j ≡ (has looked.after j true || has looked.after j false)
+  pub before : List (ℕ × ℕ)
+  pub after : List (ℕ × ℕ)
+  pub begun : Begun m known k room looked.stood before after
+  pub more : List (ℕ × ℕ)
+  pub stand : links ≡ after ++ more
+
+-- so it was with each of the first n clauses
+abbrev pub SweptTo : ℕ → List ClauseMask → ℕ → List Decision → List Decision → List (ℕ × ℕ) → Type 0
+SweptTo n ms room ds es links = (k : ℕ) (m : ClauseMask) → k < n → Swept (slice_index_or ms k m) k room ds es links
 
 -- the clauses of the links are numbers below n
 abbrev pub Named : List Link → ℕ → Type 0

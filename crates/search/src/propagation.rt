@@ -6,9 +6,9 @@ ghost use Rattle.masks.specs.Questions.{Each};
 ghost use Rattle.masks.specs.Standings.{Stands};
 ghost use Rattle.trail.specs.Entries.{entries, made_true, handed_out};
 ghost use Rattle.trail.specs.Reasons.{Sound};
-ghost use Rattle.search.specs.Looks.{Named, LookedAt, Settles, Propagated};
+ghost use Rattle.search.specs.Looks.{Named, SweptTo, LookedAt, Settles, Propagated};
 ghost use Rattle.search.specs.Searches.{Extends, Conflict, Brings, Upheld, Keeps};
-ghost use Rattle.search.specs.Watched.{room, Stays};
+ghost use Rattle.search.specs.Watched.{room, watched, Stays};
 
 use crate::search::Search;
 use crate::watches::Watches;
@@ -72,6 +72,7 @@ impl Search {
     pub(crate) fn sweep(&mut self, masks: &[ClauseMask]) -> Option<ClauseMask>
         ensures keeps { Keeps (λ base. Each base masks.now) self.old self.new }
         ensures found { Conflict (entries self.new.trail) (λ base. Each base masks.now) result }
+        ensures swept { result ≡ None → SweptTo (length masks.now) masks.now (room self.old.watches) (entries self.old.trail) (entries self.new.trail) (watched self.new.watches) }
         ensures named { Named (vec_items self.old.watches.links) (length masks.now) → Named (vec_items self.new.watches.links) (length masks.now) }
         ensures room { room self.new.watches ≡ room self.old.watches }
     {
