@@ -1,5 +1,5 @@
 // The count through all assignments, and the step from one to the next.
-ghost use Rattle.std.specs.Prelude.{◌≡◌, ℕ, true, MatchOption};
+ghost use Rattle.std.specs.Prelude.{◌≡◌, ℕ, true, is_ok, MatchOption};
 ghost use Rattle.masks.specs.Questions.{Decided};
 ghost use Rattle.counting.specs.Orders.{Stepped};
 
@@ -16,7 +16,9 @@ impl Engine for Counter {
     // it needs none
     ghost prepared = { λ counter capacity. true };
 
-    fn prepare(_heap: Global, _capacity: Capacity) -> Result<Counter, AllocError> {
+    fn prepare(_heap: Global, _capacity: Capacity) -> Result<Counter, AllocError>
+        ensures { is_ok result ≡ true }
+    {
         Ok(Counter)
     }
 

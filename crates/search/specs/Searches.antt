@@ -1,5 +1,5 @@
 -- What the steps of a search do: propagating, choosing, and jumping back.
-use Rattle.std.specs.Prelude.{◌≡◌, ℕ, ◌<◌, ◌≤◌, true, false, List, [], ◌∷◌, ◌++◌, length, Some, None, Option, vec_items}
+use Rattle.std.specs.Prelude.{◌≡◌, ℕ, ◌<◌, ◌≤◌, true, false, List, [], ◌∷◌, ◌++◌, Some, None, Option, vec_items}
 use Rattle.system.specs.Literals.{bit}
 use Rattle.masks.specs.Masks.{Implied}
 use Rattle.masks.specs.Questions.{Each, Given, Hopeless, AllMet, AllKept, Among, Within}
@@ -35,9 +35,9 @@ abbrev pub Conflict : List Decision → (List (List ℕ) → Type 0) → Option 
 Conflict ds premise None = Unit {0}
 Conflict ds premise (Some m) = Refuted m ds × ((base : List (List ℕ)) → premise base → Implied base m)
 
--- the learned clauses, or none of them where there is no room for one more
-abbrev pub Roomy : List ClauseMask → List ClauseMask → Type 0
-Roomy ms ns = (length ms < MOST → ns ≡ ms) × (MOST ≤ length ms → ns ≡ [])
+-- what there is of n learned clauses, or nothing where there is no room for one more
+abbrev pub Roomy : {A : Type 0} → ℕ → List A → List A → Type 0
+Roomy n xs ys = (n < MOST → ys ≡ xs) × (MOST ≤ n → ys ≡ [])
 
 -- what a question asks about: the clauses that are held and the literals that are assumed follow from base
 abbrev pub Asked : Question → List (List ℕ) → Type 0

@@ -1,5 +1,5 @@
 // What is done to the watched literals.
-ghost use Rattle.std.specs.Prelude.{◌≡◌, ℕ, ◌^◌, ◌*◌, ◌-◌, ◌<◌, List, ◌∷◌, length, min, IfOk, vec_items, vec_capacity};
+ghost use Rattle.std.specs.Prelude.{◌≡◌, ℕ, ◌^◌, ◌*◌, ◌-◌, ◌<◌, ◌≤◌, List, ◌∷◌, length, min, IfOk, vec_items, vec_capacity};
 ghost use Rattle.search.specs.Chains.{At, Moved, Unlinked, chain_of, link_at, partner_of};
 ghost use Rattle.search.specs.Watched.{Highest, watched, room, Idle, added, literal_by, both, Begun, Advanced};
 
@@ -118,6 +118,7 @@ impl Watches {
     pub fn clause(&self, at: Cursor) -> Option<usize>
         ensures some { (p : ℕ) → at.place ≡ Some p → p < length (vec_items self.now.links) → result ≡ Some (link_at (vec_items self.now.links) p).clause }
         ensures none { at.place ≡ None → result ≡ None }
+        ensures past { (p : ℕ) → at.place ≡ Some p → length (vec_items self.now.links) ≤ p → result ≡ None }
     {
         let link = self.links.get(at.place?)?;
         Some(link.clause)

@@ -35,7 +35,7 @@ fn latest(decisions: &[Decision], clause: ClauseMask, but: u8) -> u8
 impl Search {
     // Reserves all the memory that it will use, for so many held clauses.
     pub fn new(heap: Global, clauses: usize) -> Result<Search, AllocError>
-        ensures { IfOk result (λ s. room s.watches ≡ min (clauses * 2) (2 ^ 64 - 1)) }
+        ensures { IfOk result (λ s. Fresh s × (room s.watches ≡ min (clauses * 2) (2 ^ 64 - 1))) }
     {
         let trail = Trail::new(heap)?;
         let learned = Learned::new(heap)?;

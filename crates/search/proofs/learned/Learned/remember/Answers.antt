@@ -25,6 +25,7 @@ returns-clause-watched c =
     let n = vec_len l.clauses in
     let more = c.push_reserved.ensures.len in (
       watched l.watches,
+      c.make_room.ensures.watched,
       learned_links l.watches c.watch.new.self n c.len.result c.args.clause c.args.one c.args.other l.watched c.make_room.ensures.room l.room c.len.ensures c.watch.ensures.watched
           ∙ ap (λ k. watched l.watches ++ (k, literal_by c.args.clause c.args.one) ∷ (k, literal_by c.args.clause c.args.other) ∷ []) (omega arith),
     )
