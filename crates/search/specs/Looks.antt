@@ -11,7 +11,7 @@ use Rattle.trail.specs.Decisions.{has, Spells}
 use Rattle.trail.specs.Entries.{entries, handed_out}
 use Rattle.trail.specs.declared.decision.Decision.{Decision}
 use Rattle.search.specs.Chains.{link_at}
-use Rattle.search.specs.Watched.{Begun}
+use Rattle.search.specs.Watched.{watched, Begun}
 use Rattle.search.specs.Searches.{Extends, Brings}
 use Rattle.search.specs.declared.search.Search.{Search}
 use Rattle.search.specs.declared.watches.Link.{Link}
@@ -44,6 +44,11 @@ pub record Swept (m : ClauseMask) (k room : ℕ) (ds es : List Decision) (links 
 -- so it was with each of the first n clauses
 abbrev pub SweptTo : ℕ → List ClauseMask → ℕ → List Decision → List Decision → List (ℕ × ℕ) → Type 0
 SweptTo n ms room ds es links = (k : ℕ) (m : ClauseMask) → k < n → Swept (slice_index_or ms k m) k room ds es links
+
+-- the first pass went over all the clauses, from the decisions with which it started
+pub record FirstPass (ms : List ClauseMask) (room : ℕ) (s : Search) : Type 0 where
+  pub start : List Decision
+  pub swept : SweptTo (length ms) ms room start (entries s.trail) (watched s.watches)
 
 -- the clauses of the links are numbers below n
 abbrev pub Named : List Link → ℕ → Type 0

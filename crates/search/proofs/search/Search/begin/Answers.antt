@@ -1,7 +1,8 @@
-use Rattle.std.proofs.Common.{length, vec_items, sym, ap, ◌∙◌, subst}
-use Rattle.std.proofs.lemmas.Result.{MatchResult-weaker}
-use Rattle.search.specs.Looks.{Named}
-use Rattle.search.specs.Watched.{room}
+use Rattle.std.proofs.Common.{length, vec_items, sym, ap, ◌∙◌, subst, inl, inr}
+use Rattle.std.proofs.lemmas.Result.{MatchResult-weaker, IfOk-weaker}
+use Rattle.trail.specs.Entries.{entries}
+use Rattle.search.specs.Looks.{Named, SweptTo}
+use Rattle.search.specs.Watched.{room, watched}
 use Rattle.search.specs.declared.watches.Watches.{Watches}
 use Rattle.search.proofs.search.Search.begin.Goals as goal
 
@@ -11,6 +12,7 @@ returns-in-Some c =
     record {
       keeps = λ base given up. c.learn.ensures.keeps base (found base given.1) (c.assume.ensures.keeps base given.1 up);
       cases = MatchResult-weaker c.learn.result c.learn.ensures.cases (λ x h. tt) (λ x f base given up. f base (found base given.1) (c.assume.ensures.keeps base given.1 up));
+      begun = IfOk-weaker c.learn.result _ _ (λ x taught. inl taught) c.learn.ensures.taught;
       named = subst (λ (w : Watches). Named (vec_items w.links) (length c.args.question.masks.now)) (sym (c.learn.ensures.kept ∙ c.assume.ensures.kept));
       room = ap room (c.learn.ensures.kept ∙ c.assume.ensures.kept);
     }
@@ -22,6 +24,7 @@ returns-in-Some-sweep c =
       keeps = λ base given up. c.learn-in-Some-sweep.ensures.keeps base (found base given.0) (c.sweep.ensures.keeps base given.0 (c.assume.ensures.keeps base given.1 up));
       cases = MatchResult-weaker c.learn-in-Some-sweep.result c.learn-in-Some-sweep.ensures.cases (λ x h. tt)
           (λ x f base given up. f base (found base given.0) (c.sweep.ensures.keeps base given.0 (c.assume.ensures.keeps base given.1 up)));
+      begun = IfOk-weaker c.learn-in-Some-sweep.result _ _ (λ x taught. inl taught) c.learn-in-Some-sweep.ensures.taught;
       named = λ named.
           subst (λ (w : Watches). Named (vec_items w.links) (length c.args.question.masks.now)) (sym c.learn-in-Some-sweep.ensures.kept)
           (c.sweep.ensures.named (subst (λ (w : Watches). Named (vec_items w.links) (length c.args.question.masks.now)) (sym c.assume.ensures.kept) named));
@@ -30,3 +33,13 @@ returns-in-Some-sweep c =
 
 pub returns-clause-keeps : goal.returns-clause-keeps
 returns-clause-keeps c base given up = c.sweep.ensures.keeps base given.0 (c.assume.ensures.keeps base given.1 up)
+
+pub returns-clause-begun : goal.returns-clause-begun
+returns-clause-begun c =
+    let ms = c.args.question.masks.now in
+    let ds = entries c.assume.new.self.trail in
+    let s = c.sweep.new.self in
+    inr (record {
+      start = ds;
+      swept = subst (λ r. SweptTo (length ms) ms r ds (entries s.trail) (watched s.watches)) (ap room c.assume.ensures.kept) (c.sweep.ensures.swept c.in_default-sweep.is);
+    })
