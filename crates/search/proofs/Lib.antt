@@ -1,3 +1,4 @@
+mod Assuming
 mod Chains
 mod Linking
 mod Looking

@@ -1,5 +1,5 @@
 -- Which clauses propagation looks at, and what it leaves behind.
-use Rattle.std.specs.Prelude.{◌≡◌, ℕ, ◌<◌, ◌≤◌, Bool, true, false, not, ◌||◌, ◌⊎◌, List, ◌++◌, length, slice_index_or, vec_items}
+use Rattle.std.specs.Prelude.{◌≡◌, ℕ, ◌/◌, ◌%◌, ◌==◌, ◌<◌, ◌≤◌, Bool, true, false, not, ◌||◌, ◌⊎◌, List, ◌++◌, length, slice_index, slice_index_or, vec_items}
 use Rattle.system.specs.Literals.{bit}
 use Rattle.system.specs.Spelling.{literal_of}
 use Rattle.masks.specs.Masks.{inside}
@@ -45,9 +45,18 @@ pub record Swept (m : ClauseMask) (k room : ℕ) (ds es : List Decision) (links 
 abbrev pub SweptTo : ℕ → List ClauseMask → ℕ → List Decision → List Decision → List (ℕ × ℕ) → Type 0
 SweptTo n ms room ds es links = (k : ℕ) (m : ClauseMask) → k < n → Swept (slice_index_or ms k m) k room ds es links
 
--- the first pass went over all the clauses, from the decisions with which it started
-pub record FirstPass (ms : List ClauseMask) (room : ℕ) (s : Search) : Type 0 where
+-- whether the decisions make the literal true
+abbrev pub true_by : List Decision → ℕ → Bool
+true_by ds l = has ds (l / 2) (l % 2 == 0)
+
+-- the first n of the assumed literals are true by the decisions
+abbrev pub AssumedTo : ℕ → List ℕ → List Decision → Type 0
+AssumedTo n ls ds = (k : ℕ) → k < n → true_by ds (slice_index ls k) ≡ true
+
+-- the first pass went over all the clauses, from decisions that make every assumed literal true
+pub record FirstPass (ms : List ClauseMask) (ls : List ℕ) (room : ℕ) (s : Search) : Type 0 where
   pub start : List Decision
+  pub assumed : AssumedTo (length ls) ls start
   pub swept : SweptTo (length ms) ms room start (entries s.trail) (watched s.watches)
 
 -- the clauses of the links are numbers below n

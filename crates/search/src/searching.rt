@@ -1,5 +1,5 @@
 // The search: propagate, learn from a conflict and jump back, or choose, until all is true or nothing can be.
-ghost use Rattle.std.specs.Prelude.{◌≡◌, ℕ, ◌^◌, ◌*◌, ◌-◌, ◌<◌, true, ◌⊎◌, min, length, reverse, IfOk, MatchResult, vec_items};
+ghost use Rattle.std.specs.Prelude.{◌≡◌, ℕ, ◌^◌, ◌*◌, ◌-◌, ◌<◌, true, ◌⊎◌, min, length, reverse, None, IfOk, MatchResult, vec_items};
 ghost use Rattle.system.specs.Literals.{bit};
 ghost use Rattle.masks.specs.Masks.{Implied};
 ghost use Rattle.masks.specs.Questions.{Units, Decided};
@@ -8,7 +8,7 @@ ghost use Rattle.trail.specs.Entries.{entries, made_true};
 ghost use Rattle.trail.specs.Reasons.{Refuted};
 ghost use Rattle.search.specs.Searches.{Conflict, Asked, Occurring, Keeps, Refutes, Taught, Chooses, Rises, Satisfies, Turned, Fresh};
 ghost use Rattle.search.specs.Watched.{first_other, room, Stays};
-ghost use Rattle.search.specs.Looks.{FirstPass, Named};
+ghost use Rattle.search.specs.Looks.{AssumedTo, FirstPass, Named};
 
 use crate::learned::Learned;
 use crate::progress::{Progress, Unsatisfiable};
@@ -120,6 +120,7 @@ impl Search {
     fn assume(&mut self, assumed: &[u8]) -> Option<ClauseMask>
         ensures keeps { Keeps (λ base. Units base assumed.now) self.old self.new }
         ensures found { Conflict (entries self.new.trail) (λ base. Units base assumed.now) result }
+        ensures assumed { result ≡ None → AssumedTo (length assumed.now) assumed.now (entries self.new.trail) }
         ensures kept { self.new.watches ≡ self.old.watches }
     {
         for literal in assumed {
@@ -137,7 +138,7 @@ impl Search {
     fn begin(&mut self, question: Question) -> Result<(), Unsatisfiable>
         ensures keeps { Keeps (Asked question.entry) self.old self.new }
         ensures cases { MatchResult result (λ _. Unit {0}) (λ _. Refutes (Asked question.entry) self.old) }
-        ensures begun { IfOk result (λ _. Taught self.new ⊎ FirstPass question.entry.masks.now (room self.old.watches) self.new) }
+        ensures begun { IfOk result (λ _. Taught self.new ⊎ FirstPass question.entry.masks.now question.entry.assumed.now (room self.old.watches) self.new) }
         ensures named { Named (vec_items self.old.watches.links) (length question.entry.masks.now) → Named (vec_items self.new.watches.links) (length question.entry.masks.now) }
         ensures room { room self.new.watches ≡ room self.old.watches }
     {

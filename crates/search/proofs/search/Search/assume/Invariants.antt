@@ -1,7 +1,14 @@
 use Rattle.std.proofs.Common.{◌≡◌}
 use Rattle.masks.specs.Questions.{Units}
+use Rattle.trail.specs.Entries.{entries}
+use Rattle.search.specs.Looks.{AssumedTo}
 use Rattle.search.specs.Searches.{Keeps}
 use Rattle.search.proofs.search.Search.assume.Given as goal
 
 abbrev pub invariant-loop-literal : goal.invariant-loop-literal
-invariant-loop-literal l = record { keeps : Keeps (λ base. Units base l.assumed) l.initial.self l.self; kept : l.self.watches ≡ l.initial.self.watches }
+invariant-loop-literal l =
+    record {
+      keeps : Keeps (λ base. Units base l.assumed) l.initial.self l.self;
+      assumed : AssumedTo l.literal-index l.assumed (entries l.self.trail);
+      kept : l.self.watches ≡ l.initial.self.watches;
+    }

@@ -41,5 +41,6 @@ returns-clause-begun c =
     let s = c.sweep.new.self in
     inr (record {
       start = ds;
+      assumed = c.assume.ensures.assumed c.in_default.is;
       swept = subst (λ r. SweptTo (length ms) ms r ds (entries s.trail) (watched s.watches)) (ap room c.assume.ensures.kept) (c.sweep.ensures.swept c.in_default-sweep.is);
     })
