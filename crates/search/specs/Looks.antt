@@ -57,6 +57,7 @@ AssumedTo n ls ds = (k : ℕ) → k < n → true_by ds (slice_index ls k) ≡ tr
 pub record FirstPass (ms : List ClauseMask) (ls : List ℕ) (room : ℕ) (s : Search) : Type 0 where
   pub start : List Decision
   pub assumed : AssumedTo (length ls) ls start
+  pub left : Extends start (entries s.trail)
   pub swept : SweptTo (length ms) ms room start (entries s.trail) (watched s.watches)
 
 -- the clauses of the links are numbers below n

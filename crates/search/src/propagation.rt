@@ -70,6 +70,7 @@ fn follow(
 impl Search {
     // Goes through the clauses once: assigns what one forces, watches the open ones, and stops at the first that is all false.
     pub(crate) fn sweep(&mut self, masks: &[ClauseMask]) -> Option<ClauseMask>
+        ensures more { Extends (entries self.old.trail) (entries self.new.trail) }
         ensures keeps { Keeps (λ base. Each base masks.now) self.old self.new }
         ensures found { Conflict (entries self.new.trail) (λ base. Each base masks.now) result }
         ensures swept { result ≡ None → SweptTo (length masks.now) masks.now (room self.old.watches) (entries self.old.trail) (entries self.new.trail) (watched self.new.watches) }

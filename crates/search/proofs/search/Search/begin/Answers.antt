@@ -42,5 +42,6 @@ returns-clause-begun c =
     inr (record {
       start = ds;
       assumed = c.assume.ensures.assumed c.in_default.is;
+      left = c.sweep.ensures.more;
       swept = subst (λ r. SweptTo (length ms) ms r ds (entries s.trail) (watched s.watches)) (ap room c.assume.ensures.kept) (c.sweep.ensures.swept c.in_default-sweep.is);
     })
