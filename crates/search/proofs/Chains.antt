@@ -360,13 +360,7 @@ walk_on heads ls at to p rest e f g w =
       place = g ∙ runs_first ls (link_at ls p).next rest (runs_from ls (head_of heads at.literal) w.front p rest w.chain.runs);
     }
 
--- a walk from the head on has the whole chain before it
-pub walk_first : (heads : List (Option ℕ)) (ls : List Link) (at : Cursor) (qs : List ℕ)
-    → at.before ≡ None → at.place ≡ head_of heads at.literal → Chain ls at.literal (head_of heads at.literal) qs → At heads ls at qs
-walk_first heads ls at qs f g c =
-    record { front = []; chain = c; before = f; place = g ∙ runs_first ls (head_of heads at.literal) qs c.runs }
-
--- the link at which a walk is is of the literal that is walked
+-- a walk is at a link of the literal that is walked
 pub walk_own : (heads : List (Option ℕ)) (ls : List Link) (at : Cursor) (p : ℕ) (qs : List ℕ) → At heads ls at (p ∷ qs) → (link_at ls p).literal ≡ at.literal
 walk_own heads ls at p qs w =
     let t = tally_onto p w.front (p ∷ qs) in

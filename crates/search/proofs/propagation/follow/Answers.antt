@@ -4,7 +4,7 @@ use Rattle.search.specs.Chains.{link_at}
 use Rattle.search.specs.Watched.{room, Stays}
 use Rattle.search.specs.declared.watches.Watches.{Watches}
 use Rattle.search.proofs.Linking.{numbers_same}
-use Rattle.search.proofs.Looking.{walking_first, walking_on, walked, walked_all, walked_off, all_settled, at_hand}
+use Rattle.search.proofs.Looking.{walking_first, walking_on, walked, walked_all, walked_off, all_settled}
 use Rattle.search.proofs.Stepping.{spells_of, extends_trans, each_at}
 use Rattle.search.proofs.propagation.follow.Goals as goal
 
@@ -42,9 +42,6 @@ stays w v many same room = record { clauses = numbers_same w v many same; space 
 pub returns-in_err-clause-clause-stays : goal.returns-in_err-clause-clause-stays
 returns-in_err-clause-clause-stays c = let i = c.loop-turn.invariant in stays c.args.watches.now c.loop-turn.watches i.walking.many i.walking.clauses i.room
 
-pub returns-in_err-mask-clause-stays : goal.returns-in_err-mask-clause-stays
-returns-in_err-mask-clause-stays c = let i = c.loop-turn.invariant in stays c.args.watches.now c.loop-turn.watches i.walking.many i.walking.clauses i.room
-
 pub returns-in-False-clause-stays : goal.returns-in-False-clause-stays
 returns-in-False-clause-stays c = let i = c.loop-turn.invariant in stays c.args.watches.now c.loop-turn.watches i.walking.many i.walking.clauses i.room
 
@@ -73,25 +70,6 @@ returns-clause-settled c none =
     (vec_items c.loop-turn.watches.links) c.loop-turn.at c.loop-turn._turn c.loop-turn.invariant.walking
     (walked_all (vec_items c.args.watches.now.links) c.args.literal c.args.masks.now (entries c.args.trail.now) (entries c.loop-turn.trail) c.loop-turn.watches.heads
     (vec_items c.loop-turn.watches.links) c.loop-turn.at c.loop-turn._turn c.loop-turn.invariant.walking (omega arith))
-
--- each link is of a clause that there is
-pub returns-in_err-mask-clause-looked : goal.returns-in_err-mask-clause-looked
-returns-in_err-mask-clause-looked c none q m h e =
-    let (p, qs, f, i, k) =
-    at_hand (vec_items c.args.watches.now.links) c.args.literal c.args.masks.now (entries c.args.trail.now) (entries c.loop-turn.trail) c.loop-turn.watches.heads
-    (vec_items c.loop-turn.watches.links) c.loop-turn.at c.loop-turn._turn c.loop-turn.invariant.walking c.in_ok-clause.field-0 c.in_ok-clause.ensures.some c.in_ok-clause.ensures.none in
-    let small = c.requires p i in
-    let large = c.in_err-mask.ensures.lookup.3 in
-    absurd (let z : ⊥ = omega arith in z)
-
-pub returns-in_err-mask-clause-settled : goal.returns-in_err-mask-clause-settled
-returns-in_err-mask-clause-settled c none q v b m h t e =
-    let (p, qs, f, i, k) =
-    at_hand (vec_items c.args.watches.now.links) c.args.literal c.args.masks.now (entries c.args.trail.now) (entries c.loop-turn.trail) c.loop-turn.watches.heads
-    (vec_items c.loop-turn.watches.links) c.loop-turn.at c.loop-turn._turn c.loop-turn.invariant.walking c.in_ok-clause.field-0 c.in_ok-clause.ensures.some c.in_ok-clause.ensures.none in
-    let small = c.requires p i in
-    let large = c.in_err-mask.ensures.lookup.3 in
-    absurd (let z : ⊥ = omega arith in z)
 
 pub returns-in-False-clause-sound : goal.returns-in-False-clause-sound
 returns-in-False-clause-sound c base each sound =

@@ -1,4 +1,4 @@
-use Rattle.std.proofs.Common.{◌∙◌, [], refl, get_or, sym, ◌||◌, true, false, ap₂, subst, append-nil, arith}
+use Rattle.std.proofs.Common.{◌∙◌, [], refl, get_or, sym, ◌||◌, true, false, ap₂, subst, append-nil}
 use Rattle.masks.specs.Masks.{none}
 use Rattle.trail.specs.Entries.{entries, made_true}
 use Rattle.search.specs.Watched.{room, watched, Begun}
@@ -6,16 +6,6 @@ use Rattle.search.proofs.Linking.{named_begun}
 use Rattle.search.proofs.Stepping.{extends_trans, spells_of}
 use Rattle.search.proofs.Sweeping.{swept_next}
 use Rattle.search.proofs.search.Search.sweep.Goals as goal
-
-pub loop-clause-init : goal.loop-clause-init
-loop-clause-init c =
-    record {
-      keeps = λ base each up. up;
-      more = ([], sym (append-nil (entries c.args.self.now.trail)));
-      swept = λ k m h. absurd (let z : ⊥ = omega arith in z);
-      named = λ named. named;
-      room = refl;
-    }
 
 pub loop-clause-preserved : goal.loop-clause-preserved
 loop-clause-preserved c =
@@ -60,6 +50,3 @@ pub returns-in-False-clause-keeps : goal.returns-in-False-clause-keeps
 returns-in-False-clause-keeps c base each up =
     let kept = c.loop-clause.invariant.keeps base each up in
     (c.visit-stood.ensures.sound base (each c.loop-clause.clause none c.loop-clause-test.true) kept.0, kept.1)
-
-pub returns-clause-swept : goal.returns-clause-swept
-returns-clause-swept c none k m h = c.loop-clause.invariant.swept k m (omega (arith, c.loop-clause-test.false))

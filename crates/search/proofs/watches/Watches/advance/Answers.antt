@@ -45,16 +45,3 @@ returns-then-literal-at-clause-moves c p e =
     let stays = subst (Advanced c.args.mask c.args.known (partner_of ls place) c.args.stood at.literal) c.if-literal-at.true c.next_literal-literal.ensures in
     subst (λ (q : ℕ). Advanced c.args.mask c.args.known (partner_of ls q) c.args.stood (link_at ls q).literal (link_at ls q).literal) same
     (subst (λ (l : ℕ). Advanced c.args.mask c.args.known (partner_of ls place) c.args.stood l l) (sym (walk_own s.heads ls at place rest w)) stays)
-
-pub returns-clause-moves : goal.returns-clause-moves
-returns-clause-moves c p e =
-    let s = c.args.self.now in
-    let ls = vec_items s.links in
-    let ks = vec_items c.relink.new.self.links in
-    let at = c.args.at in
-    let place = c.in-Some.place in
-    let (rest, w) = walk_at s.heads ls at place c.requires.0 c.in-Some.is c.requires.1 in
-    let same : place ≡ p = cc in
-    let moved = subst (Advanced c.args.mask c.args.known (partner_of ls place) c.args.stood at.literal) (sym c.relink.ensures.moved.literal) c.next_literal-literal.ensures in
-    subst (λ (q : ℕ). Advanced c.args.mask c.args.known (partner_of ls q) c.args.stood (link_at ls q).literal (link_at ks q).literal) same
-    (subst (λ (l : ℕ). Advanced c.args.mask c.args.known (partner_of ls place) c.args.stood l (link_at ks place).literal) (sym (walk_own s.heads ls at place rest w)) moved)
