@@ -1,5 +1,5 @@
 // Candidates that are true at the start, and the descent on these.
-ghost use Rattle.std.specs.Prelude.{◌≡◌, ◌<◌, ◌↔◌, true, [], length, take};
+ghost use Rattle.std.specs.Prelude.{◌≡◌, ◌<◌, ◌↔◌, true, [], drop, length, take};
 ghost use Rattle.system.specs.Literals.{bit, clause};
 ghost use Rattle.system.specs.Systems.{Initiation, OverRelays};
 ghost use Rattle.solver.specs.Answers.{need_of, spare};
@@ -26,6 +26,7 @@ pub fn choose<S: Solver>(
 )
     ensures sieved { Ready case.now entries.now (S.Solver.capacity solver.old) → CandidateList case.now.n candidates.now → Sieved case.now entries.now candidates.now (take (length candidates.now) marks.new) }
     ensures largest { Ready case.now entries.now (S.Solver.capacity solver.old) → CandidateList case.now.n candidates.now → TakesLargest case.now entries.now candidates.now (take (length candidates.now) marks.new) }
+    ensures rest { drop (length candidates.now) marks.new ≡ drop (length candidates.now) marks.old }
     ensures held { S.Solver.held solver.new ≡ [] }
     ensures capacity { S.Solver.capacity solver.new ≡ S.Solver.capacity solver.old }
 {
