@@ -30,15 +30,22 @@ impl<'a> Question<'a> {
         found
     }
 
-    // The clause of an assumed literal, or a held clause, that has no literal in the set; none where all have one.
+    // A held clause, or the clause of an assumed literal, that has no literal in the set; none where all have one.
     pub fn unmet(self, set: ClauseMask) -> Option<ClauseMask>
         ensures { Checked self.entry.masks.now self.entry.assumed.now set result }
     {
-        let assumed = self.assumed.iter();
-        let held = self.masks.iter();
-        assumed
-            .map(|literal| ClauseMask::NONE.with_literal(*literal))
-            .chain(held.copied())
-            .find(|clause| !clause.meets(set))
+        // the held clauses first, and two plain loops: a solver that counts passes here at each assignment
+        for clause in self.masks {
+            if !clause.meets(set) {
+                return Some(*clause);
+            }
+        }
+        for byte in self.assumed {
+            let unit = ClauseMask::NONE.with_literal(*byte);
+            if !unit.meets(set) {
+                return Some(unit);
+            }
+        }
+        None
     }
 }

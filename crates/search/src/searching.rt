@@ -157,8 +157,9 @@ impl Search {
         ensures cases { MatchResult result (λ _. Satisfies self.new question.entry) (λ _. Refutes (Asked question.entry) self.old) }
         ensures room { room self.new.watches ≡ room self.old.watches }
     {
-        let occurring = question.variables();
+        // after the first pass: where it finds that nothing can be true, no further literal is looked at
         self.begin(question)?;
+        let occurring = question.variables();
         'turns: loop {
             match self.turn(question, occurring)? {
                 Progress::Satisfied => return Ok(()),

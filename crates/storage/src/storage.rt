@@ -4,6 +4,7 @@ ghost use Rattle.std.specs.Prelude.{◌≡◌, ◌≤◌, [], ◌∷◌, ◌++�
 ghost use Rattle.solver.specs.Answers.{fits};
 ghost use Rattle.system.specs.Literals.{size};
 ghost use Rattle.masks.specs.Masks.{mask_of};
+ghost use Rattle.storage.specs.Stored.{Within};
 
 use masks::ClauseMask;
 use solver::{Capacity, NoCapacity};
@@ -64,7 +65,8 @@ impl Storage {
 
     // The set of literals of each clause.
     pub fn masks(&self) -> &[ClauseMask]
-        ensures { result.now ≡ map mask_of self.now.held }
+        ensures value { result.now ≡ map mask_of self.now.held }
+        ensures within { Within self.now }
     {
         self.masks.as_slice()
     }
@@ -100,6 +102,7 @@ impl Storage {
         ensures test { is_ok result ≡ fits self.old.held clause.now self.old.capacity }
         ensures held { self.new.held ≡ (if is_ok result then self.old.held ++ clause.now ∷ [] else self.old.held) }
         ensures capacity { self.new.capacity ≡ self.old.capacity }
+        ensures within { Within self.new }
     {
         if self.masks.len() >= self.capacity.clauses {
             return Err(NoCapacity);
@@ -119,10 +122,13 @@ impl Storage {
     pub fn cut(&mut self, count: usize)
         ensures held { self.new.held ≡ take count self.old.held }
         ensures capacity { self.new.capacity ≡ self.old.capacity }
+        ensures within { Within self.new }
     {
         self.masks.truncate(count);
+        // only what goes is looked at
+        let gone: usize = self.lengths[self.masks.len()..].iter().sum();
         self.lengths.truncate(count);
-        let left: usize = self.lengths.iter().sum();
+        let left = self.literals.len() - gone;
         self.literals.truncate(left);
     }
 }

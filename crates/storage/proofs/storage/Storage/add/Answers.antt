@@ -1,12 +1,12 @@
-use Rattle.std.proofs.Common.{◌≡◌, true, [], ◌∷◌, ◌++◌, map, length, is_ok, sum, vec_items, sym, ap, ◌∙◌, ap₂, arith}
+use Rattle.std.proofs.Common.{◌≡◌, true, [], ◌∷◌, ◌++◌, map, length, is_ok, sum, vec_items, sym, ap, ◌∙◌, ap₂, subst, arith}
 use Rattle.std.proofs.lemmas.List.{map_push}
 use Rattle.std.proofs.lemmas.List.Sums.{sum_by_push}
 use Rattle.std.proofs.lemmas.Grind.{common_steps}
 use Rattle.std.proofs.lemmas.Bool.{cond-true}
 use Rattle.solver.specs.Answers.{fits}
 use Rattle.masks.specs.Masks.{mask_of}
-use Rattle.storage.specs.Stored.{Stored}
-use Rattle.storage.proofs.Pieces.{no_room, held_size, held_more}
+use Rattle.storage.specs.Stored.{Stored, Within}
+use Rattle.storage.proofs.Pieces.{no_room, held_size, held_within, held_more}
 use Rattle.storage.proofs.storage.Storage.add.Goals as goal
 
 pub returns-then-clause-self-clause-test : goal.returns-then-clause-self-clause-test
@@ -40,3 +40,12 @@ returns-clause-held c =
     let ok : is_ok c.extend_from_slice.result ≡ true = c.extend_from_slice.ensures.succeeds (omega arith) in
     held_more c.self.inside c.self.invariant c.args.clause.now _ _ c.push_reserved.ensures.items (c.extend_from_slice.ensures.items ∙ cond-true _ _ _ ok)
     ∙ ap (λ (v : Stored). v.held ++ c.args.clause.now ∷ []) c.self.view_is
+
+pub returns-then-len-self-clause-within : goal.returns-then-len-self-clause-within
+returns-then-len-self-clause-within c = subst Within c.self.view_is (held_within c.self.inside c.self.invariant)
+
+pub returns-then-clause-self-clause-within : goal.returns-then-clause-self-clause-within
+returns-then-clause-self-clause-within c = subst Within c.self.view_is (held_within c.self.inside c.self.invariant)
+
+pub returns-clause-within : goal.returns-clause-within
+returns-clause-within c = held_within _ (invariant_of-self c)
