@@ -1,5 +1,5 @@
 -- What the steps of a search do: propagating, choosing, and jumping back.
-use Rattle.std.specs.Prelude.{◌≡◌, ℕ, ◌<◌, ◌≤◌, true, false, List, [], ◌∷◌, ◌++◌, Some, None, Option, vec_items}
+use Rattle.std.specs.Prelude.{◌≡◌, ℕ, ◌<◌, ◌≤◌, true, false, List, [], ◌∷◌, ◌++◌, Some, None, Option, vec_items, vec_len}
 use Rattle.system.specs.Literals.{bit}
 use Rattle.masks.specs.Masks.{Implied}
 use Rattle.masks.specs.Questions.{Each, Given, Hopeless, AllMet, AllKept, Among, Within}
@@ -72,6 +72,12 @@ abbrev pub Taught : Search → Type 0
 Taught s =
     (m : ClauseMask) × (d : Decision) × (ds : List Decision) × (ms : List ClauseMask)
     × (entries s.trail ≡ ds ++ d ∷ []) × (d.forcing ≡ Forced m) × (vec_items s.learned.clauses ≡ ms ++ m ∷ [])
+
+-- one clause more was learned, and the others were let go only where there was no room
+abbrev pub Remembers : Search → Search → Type 0
+Remembers before after =
+    (earlier : List ClauseMask) × (m : ClauseMask) × Roomy (vec_len before.learned.clauses) (vec_items before.learned.clauses) earlier
+    × (vec_items after.learned.clauses ≡ earlier ++ m ∷ [])
 
 -- the lowest of the variables was chosen, as false
 pub record Chooses (x : ℕ) (ds es : List Decision) : Type 0 where

@@ -76,6 +76,7 @@ impl Search {
         ensures swept { result ≡ None → SweptTo (length masks.now) masks.now (room self.old.watches) (entries self.old.trail) (entries self.new.trail) (watched self.new.watches) }
         ensures named { Named (vec_items self.old.watches.links) (length masks.now) → Named (vec_items self.new.watches.links) (length masks.now) }
         ensures room { room self.new.watches ≡ room self.old.watches }
+        ensures learned { self.new.learned ≡ self.old.learned }
     {
         for (clause, mask) in masks.iter().enumerate() {
             let stood = visit(&mut self.trail, *mask);

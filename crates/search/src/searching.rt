@@ -6,7 +6,7 @@ ghost use Rattle.masks.specs.Questions.{Units, Decided};
 ghost use Rattle.masks.specs.Standings.{Unassigned};
 ghost use Rattle.trail.specs.Entries.{entries, made_true};
 ghost use Rattle.trail.specs.Reasons.{Refuted};
-ghost use Rattle.search.specs.Searches.{Conflict, Asked, Occurring, Keeps, Refutes, Taught, Chooses, Rises, Satisfies, Turned, Fresh};
+ghost use Rattle.search.specs.Searches.{Conflict, Asked, Occurring, Keeps, Refutes, Taught, Remembers, Chooses, Rises, Satisfies, Turned, Fresh};
 ghost use Rattle.search.specs.Watched.{first_other, room, Stays};
 ghost use Rattle.search.specs.Looks.{AssumedTo, FirstPass, Named};
 
@@ -54,6 +54,7 @@ impl Search {
         ensures taught { IfOk result (λ _. Taught self.new) }
         ensures cases { MatchResult result (λ _. Rises self.old self.new) (λ _. Refutes (λ base. Implied base conflict) self.old) }
         ensures kept { self.new.watches ≡ self.old.watches }
+        ensures remembered { MatchResult result (λ _. Remembers self.old self.new) (λ _. self.new ≡ self.old) }
     {
         let jump = analyze(&self.trail, conflict).ok_or(Unsatisfiable)?;
         let variable = jump.literal.variable;
@@ -72,6 +73,7 @@ impl Search {
         ensures rises { Rises self.old self.new }
         ensures chosen { Chooses candidates (entries self.old.trail) (entries self.new.trail) }
         ensures kept { self.new.watches ≡ self.old.watches }
+        ensures learned { self.new.learned ≡ self.old.learned }
     {
         let literal = Literal {
             variable: candidates.trailing_zeros() as u8,
@@ -122,6 +124,7 @@ impl Search {
         ensures found { Conflict (entries self.new.trail) (λ base. Units base assumed.now) result }
         ensures assumed { result ≡ None → AssumedTo (length assumed.now) assumed.now (entries self.new.trail) }
         ensures kept { self.new.watches ≡ self.old.watches }
+        ensures learned { self.new.learned ≡ self.old.learned }
     {
         for literal in assumed {
             let mask = ClauseMask::NONE.with_literal(*literal);

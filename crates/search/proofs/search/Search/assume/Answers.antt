@@ -38,6 +38,7 @@ loop-literal-preserved c =
                 (assumed_next i ls ds (entries w.assign.new.self) before.assumed (made.made ∷ [], made.is)
                 (unit_decided (get_or ls i 0) l.variable l.value _ ds (entries w.assign.new.self) made own));
             kept = ap (λ (s : Search). s.watches) w.self-is ∙ before.kept;
+            learned = ap (λ (s : Search). s.learned) w.self-is ∙ before.learned;
           }
       | in-True w ↦
           record {
@@ -47,6 +48,7 @@ loop-literal-preserved c =
                 (assumed_next i ls ds ds before.assumed (extends_same ds ds refl)
                 (unit_stood (get_or ls i 0) c.with_literal-mask.result s ds c.standing.result c.with_literal-mask.ensures spelled c.standing.ensures w.in-True.is));
             kept = ap (λ (s : Search). s.watches) w.self-is ∙ before.kept;
+            learned = ap (λ (s : Search). s.learned) w.self-is ∙ before.learned;
           }
     ]
 

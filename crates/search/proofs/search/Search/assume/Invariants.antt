@@ -11,4 +11,5 @@ invariant-loop-literal l =
       keeps : Keeps (λ base. Units base l.assumed) l.initial.self l.self;
       assumed : AssumedTo l.literal-index l.assumed (entries l.self.trail);
       kept : l.self.watches ≡ l.initial.self.watches;
+      learned : l.self.learned ≡ l.initial.self.learned;
     }

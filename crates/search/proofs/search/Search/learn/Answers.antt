@@ -1,4 +1,4 @@
-use Rattle.std.proofs.Common.{take, arith}
+use Rattle.std.proofs.Common.{take, arith, rules}
 use Rattle.trail.specs.Entries.{entries}
 use Rattle.trail.proofs.Standing.{sound_take}
 use Rattle.search.proofs.Stepping.{sound_appended, height_changed}
@@ -12,7 +12,7 @@ returns-clause-keeps c base implied up =
     let ds = entries c.args.self.now.trail in
     let taught = found.4 base c.requires up.0 implied in (
       sound_appended base (take jump.to ds) (entries c.change.new.self) _ _ _ made (sound_take base ds jump.to (omega (arith, found.0)) up.0) taught,
-      c.remember.ensures.each base up.1 taught.0,
+      c.remember.ensures.each base (search (rules, up.1)) taught.0,
     )
 
 pub returns-clause-taught : goal.returns-clause-taught

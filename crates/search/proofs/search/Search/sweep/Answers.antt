@@ -1,4 +1,4 @@
-use Rattle.std.proofs.Common.{◌∙◌, [], refl, get_or, sym, ◌||◌, true, false, ap₂, subst, append-nil}
+use Rattle.std.proofs.Common.{◌∙◌, [], refl, get_or, sym, ◌||◌, true, false, ap₂, subst, append-nil, rules}
 use Rattle.masks.specs.Masks.{none}
 use Rattle.trail.specs.Entries.{entries, made_true}
 use Rattle.search.specs.Watched.{room, watched, Begun}
@@ -44,9 +44,10 @@ loop-clause-preserved c =
           }) c.loop-clause-test.true none refl;
       named = λ named. named_begun c.loop-clause.self.watches c.begin.new.self _ _ _ _ _ _ c.begin.ensures.watched c.loop-clause-test.true (c.loop-clause.invariant.named named);
       room = c.begin.ensures.room ∙ c.loop-clause.invariant.room;
+      learned = c.loop-clause.invariant.learned;
     }
 
 pub returns-in-False-clause-keeps : goal.returns-in-False-clause-keeps
 returns-in-False-clause-keeps c base each up =
-    let kept = c.loop-clause.invariant.keeps base each up in
+    let kept = c.loop-clause.invariant.keeps base each (up.0, search (rules, up.1)) in
     (c.visit-stood.ensures.sound base (each c.loop-clause.clause none c.loop-clause-test.true) kept.0, kept.1)

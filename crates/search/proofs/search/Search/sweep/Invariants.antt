@@ -14,4 +14,5 @@ invariant-loop-clause l =
       swept : SweptTo l.clause l.masks (room l.initial.self.watches) (entries l.initial.self.trail) (entries l.self.trail) (watched l.self.watches);
       named : Named (vec_items l.initial.self.watches.links) (length l.masks) → Named (vec_items l.self.watches.links) (length l.masks);
       room : room l.self.watches ≡ room l.initial.self.watches;
+      learned : l.self.learned ≡ l.initial.self.learned;
     }
