@@ -1,5 +1,5 @@
 -- Sets of literals and the clauses that they stand for, under a valuation. Assumes nothing.
-use Rattle.std.proofs.Common.{◌≡◌, ℕ, ◌/◌, ◌%◌, ◌^◌, ◌<◌, Bool, true, false, not, ◌&&◌, T, eqb, ◌⊎◌, List, [], ◌∷◌, ◌++◌, map, length, get_or, fold, sym, refl, ap, ◌∙◌, subst, subst₂, inl, inr, arith}
+use Rattle.std.proofs.Common.{◌≡◌, ℕ, ◌/◌, ◌%◌, ◌^◌, ◌<◌, Bool, true, false, not, ◌&&◌, T, eqb, ◌⊎◌, List, [], ◌∷◌, ◌++◌, map, length, get_or, fold, sym, refl, ap, ◌∙◌, ap₂, subst, subst₂, inl, inr, arith}
 use mathlib.Core.Bool.{beq, or-false}
 use Rattle.std.proofs.lemmas.Bool.{true≢false, cases_Bool, and_parts, and_from, or_cases, or_left, or_right, eq-eqb, eqb-true}
 use Rattle.std.specs.List.{list_all, AllPass, Contains}
@@ -11,7 +11,7 @@ use Rattle.system.proofs.Truth.{T_of, T_true}
 use Rattle.solver.specs.Answers.{Answered, literals, model}
 use Rattle.solver.specs.declared.answer.Answer.TheVariants.{Yes, No}
 use Rattle.solver.proofs.Models.{model_halves}
-use Rattle.masks.specs.Masks.{inside, none, with_literal, mask_of, Meets, Fails, Implied}
+use Rattle.masks.specs.Masks.{inside, none, with_literal, mask_of, Meets, Apart, Fails, Implied}
 use Rattle.masks.specs.Questions.{unit, Each, Given, Hopeless, AllMet, AllKept}
 use Rattle.masks.specs.declared.mask.ClauseMask.{ClauseMask}
 use Rattle.masks.proofs.Sets.{clash, inside_none, with_inside, beq_same, beq_true, same_or_not, not_opposite}
@@ -40,6 +40,12 @@ folded_more (l ∷ c) m j b t = folded_more c (with_literal m l) j b (with_more 
 -- an assumed literal
 pub unit_is : (l j : ℕ) (c : Bool) → inside (unit l) j c ≡ true → (j ≡ l / 2) × (c ≡ eqb (l % 2) 0)
 unit_is l j c t = elim (with_cases none l j c t) [ inl p ↦ clash (inside none j c) p (inside_none j c) | inr q ↦ q ]
+
+pub unit_met : (l : ℕ) (s : ClauseMask) → inside s (l / 2) (eqb (l % 2) 0) ≡ true → Meets (unit l) s
+unit_met l s h = (l / 2, eqb (l % 2) 0, with_own none l, h)
+
+pub unit_apart : (l : ℕ) (s : ClauseMask) → inside s (l / 2) (eqb (l % 2) 0) ≡ false → Apart (unit l) s
+unit_apart l s h j b i = let e = unit_is l j b i in ap₂ (inside s) e.0 e.1 ∙ h
 
 -- a literal that is in the set of a clause and true makes the clause true
 folded_true : (a : Valuation) (c : List ℕ) (m : ClauseMask) (j : ℕ) (b : Bool) → inside (fold with_literal m c) j b ≡ true → a j ≡ b → (inside m j b ≡ true) ⊎ (clause a c ≡ true)

@@ -1,5 +1,5 @@
 // Sets of literals, and how a clause stands under a partial assignment.
-ghost use Rattle.std.specs.Prelude.{◌≡◌, ℕ, ◌%◌, Bool, true, false, not, ◌&&◌, ◌||◌, MatchBool, ◌==◌};
+ghost use Rattle.std.specs.Prelude.{◌≡◌, ℕ, ◌/◌, ◌%◌, Bool, true, false, not, ◌&&◌, ◌||◌, MatchBool, ◌==◌};
 ghost use Rattle.system.specs.Literals.{bit};
 ghost use Rattle.masks.specs.Masks.{inside, with_value, with_literal, mask_of, Meets, Apart};
 ghost use Rattle.masks.specs.Standings.{Stands};
@@ -81,6 +81,18 @@ impl ClauseMask {
         ensures { result ≡ (inside self (variable % 128) true || inside self (variable % 128) false) }
     {
         has_variable(self.positive, variable) || has_variable(self.negative, variable)
+    }
+
+    // Whether the set has the literal, given as its byte.
+    pub fn has_literal(self, literal: u8) -> bool
+        ensures { result ≡ inside self (literal / 2) (literal % 2 == 0) }
+    {
+        let Literal { variable, value } = Literal::from(literal);
+        if value {
+            has_variable(self.positive, variable)
+        } else {
+            has_variable(self.negative, variable)
+        }
     }
 
     // Whether some literal is in both sets.

@@ -41,9 +41,8 @@ impl<'a> Question<'a> {
             }
         }
         for byte in self.assumed {
-            let unit = ClauseMask::NONE.with_literal(*byte);
-            if !unit.meets(set) {
-                return Some(unit);
+            if !set.has_literal(*byte) {
+                return Some(ClauseMask::NONE.with_literal(*byte));
             }
         }
         None
