@@ -1,12 +1,12 @@
 -- Where the lists and clauses of a system lie in its bytes. Assumes nothing.
-use Rattle.std.proofs.Common.{◌≡◌, ℕ, zero, suc, ◌+◌, ◌<◌, ◌≤◌, List, [], ◌∷◌, ◌++◌, length, get_or, take, drop, sym, refl, ap, ◌∙◌, arith, length-take}
-use Rattle.std.proofs.lemmas.List.{append_assoc, append-nil, length-append, take-append-drop, take_at, drop_at, drop-drop, drop_more, take_rest}
+use Rattle.std.proofs.Common.{◌≡◌, ℕ, ◌+◌, ◌<◌, ◌≤◌, List, [], ◌∷◌, ◌++◌, length, get_or, take, drop, sym, refl, ap, ◌∙◌, arith}
+use Rattle.std.proofs.lemmas.List.{append_assoc, append-nil, length-append, take-append-drop, take_at, drop_at, drop-drop, drop_more, take_more, take_rest}
 use Rattle.system.specs.Systems.{System}
 use Rattle.faults.specs.declared.case.ListName.{ListName}
 use Rattle.faults.specs.declared.case.ListName.TheVariants.{Start, Step, Safety}
 use Rattle.faults.specs.Refusals.{count_place, offset_place}
 use Rattle.system.specs.Literals.{size}
-use Rattle.lists.specs.Spelling.{clause_at, after_clause, clauses_in, spell_clauses}
+use Rattle.lists.specs.Spelling.{clauses_in, spell_clauses}
 use Rattle.lists.proofs.Spelled.{spell_append, clauses_spelled}
 use Rattle.layout.specs.Spelling.{step_at, spell, Admitted}
 use Rattle.layout.specs.Reading.{field}
@@ -19,12 +19,13 @@ pub spelled_size : (cs : List (List ℕ)) → length (spell_clauses cs) ≡ leng
 spelled_size [] = refl
 spelled_size (d ∷ ds) = let h = spelled_size ds in let e = length-append d (spell_clauses ds) in omega arith
 
--- fewer clauses are the first of more
-clauses_front : (k n : ℕ) (bs : List ℕ) → k ≤ n → clauses_in k bs ≡ take k (clauses_in n bs)
-unfolding clauses_in
-clauses_front zero n bs h = refl
-clauses_front (suc k) zero bs h = absurd (let z : ⊥ = omega arith in z)
-clauses_front (suc k) (suc n) bs h = ap (λ ds. clause_at bs ∷ ds) (clauses_front k n (after_clause bs) (omega arith))
+-- one more clause of a list passed
+pub spell_more : (cs : List (List ℕ)) (k : ℕ) → k < length cs → length (spell_clauses (take (k + 1) cs)) ≡ length (spell_clauses (take k cs)) + (1 + length (get_or cs k []))
+spell_more cs k h =
+    let d = get_or cs k [] in
+    let e = ap (λ xs. length (spell_clauses xs)) (take_more cs k [] h) ∙ ap length (spell_append (take k cs) (d ∷ [])) ∙ length-append (spell_clauses (take k cs)) (spell_clauses (d ∷ [])) in
+    let f = length-append d [] in
+    omega arith
 
 module _ (c : System) where
   pub list_ends : (list : ListName) → beginning list c + length (spell_clauses (list_of list c)) ≤ length (spell c)
@@ -92,20 +93,6 @@ module _ (c : System) where
       ∙ ap (drop 1) (drop_at a (x ++ following list) (length a) refl) in
       ap (take (length d)) (from ∙ append_assoc d (spell_clauses rest) (following list)) ∙ take_at d _ (length d) refl
 
-  -- how many bytes the clauses before one take, as they are listed from the beginning of the list on
-  pub before_size : (list : ListName) (j : ℕ) → j < length (list_of list c) → (bs : List ℕ) → bs ≡ drop (beginning list c) (spell c) → j + size (clauses_in j bs) ≡ length (spell_clauses (take j (list_of list c)))
-  before_size list j h bs e =
-      let cs = list_of list c in
-      let are = clauses_front j (length cs) bs (omega arith) ∙ ap (λ xs. take j (clauses_in (length cs) xs)) e ∙ ap (take j) (listed list) in
-      omega (arith, ap size are, spelled_size (take j cs), length-take j cs)
-
-  -- a list begins within the bytes with room for its clauses, and so do those before one of them
-  pub list_fits : Admitted c → (list : ListName) → beginning list c + length (list_of list c) ≤ 32768
-  list_fits a list = let h = a.short in omega (arith, list_ends list, spelled_size (list_of list c))
-
-  pub before_fits : Admitted c → (list : ListName) (j : ℕ) → j < length (list_of list c) → (bs : List ℕ) → bs ≡ drop (beginning list c) (spell c) → beginning list c + (j + size (clauses_in j bs)) ≤ 32768
-  before_fits a list j h bs e = omega (arith, before_size list j h bs e, front_ends a list j)
-
   -- a clause by its number, past those before it
   pub clause_found : (list : ListName) (j : ℕ) (d : Clause) → j < length (list_of list c) → d.literals.now ≡ get_or (list_of list c) j [] → d.at ≡ beginning list c + length (spell_clauses (take j (list_of list c))) + 1 → ClauseOf list c j d
   clause_found list j d h e p =
@@ -122,5 +109,3 @@ pub ruleset header_says = (field_relays, field_inputs, begins)
 pub ruleset lists = (counted, listed)
 
 pub ruleset sections = (list_ends, take_rest)
-
-pub ruleset before = (before_size, before_fits, list_fits)

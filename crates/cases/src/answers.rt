@@ -1,6 +1,5 @@
 // What a case answers: its bytes, relays, inputs and lists, and a clause of a list by its number.
-ghost use Rattle.std.specs.Prelude.{◌≡◌, ◌+◌, ◌<◌, length, take, drop};
-ghost use Rattle.lists.specs.Spelling.{spell_clauses};
+ghost use Rattle.std.specs.Prelude.{◌≡◌, drop};
 ghost use Rattle.lists.specs.Lists.{clauses_of};
 ghost use Rattle.layout.specs.Spelling.{spell, Admitted};
 ghost use Rattle.cases.specs.Answers.{list_of, beginning, Numbered};
@@ -58,23 +57,17 @@ impl Case {
     pub fn clause(&self, list: ListName, number: usize) -> Result<Clause<'_>, WorkFault>
         ensures { Numbered list self.now number result }
     {
-        let literals = self
-            .list(list)
-            .nth(number)
-            .ok_or(WorkFault::NoSuchClause(number))?;
-        let at = self.place(list, number);
-        Ok(Clause { at, literals })
-    }
-
-    // The index of the first literal of a clause: past the clauses before it, of which each has a length byte, and past
-    // its own.
-    #[tactic(auto, using(crate::proofs::Places::before))]
-    fn place(&self, list: ListName, number: usize) -> usize
-        requires { number < length (list_of list self.now) }
-        ensures { result ≡ beginning list self.now + length (spell_clauses (take number (list_of list self.now))) + 1 }
-    {
-        let before = ClauseList::over(number, self.from_list(list));
-        self.beginning(list) + number + before.literals() + 1
+        let mut at = self.beginning(list);
+        for (passed, literals) in self.list(list).enumerate() {
+            if passed == number {
+                return Ok(Clause {
+                    at: at + 1,
+                    literals,
+                });
+            }
+            at += 1 + literals.len();
+        }
+        Err(WorkFault::NoSuchClause(number))
     }
 
     // The bytes from a list on.
