@@ -35,27 +35,30 @@ impl Case {
         read_field(self.bytes(), 0)
     }
 
-    // How many inputs the system has.
+    // How many inputs the system has, which is an admitted one.
     #[tactic(auto, using(crate::proofs::Places::header_says))]
     pub fn inputs(&self) -> u32
-        ensures { result ≡ self.now.m }
+        ensures value { result ≡ self.now.m }
+        ensures admitted { Admitted self.now }
     {
         read_field(self.bytes(), 2)
     }
 
-    // The clauses of a list.
+    // The clauses of a list of the system, which is an admitted one.
     #[tactic(auto, using(crate::proofs::Places::lists))]
     pub fn list(&self, list: ListName) -> ClauseList<'_>
-        ensures { clauses_of result ≡ list_of list self.now }
+        ensures value { clauses_of result ≡ list_of list self.now }
+        ensures admitted { Admitted self.now }
     {
         // stays a cast, here and below: no From leads from a u32 to a usize
         let count = read_field(self.bytes(), list.count_place()) as usize;
         ClauseList::over(count, self.from_list(list))
     }
 
-    // A clause of a list by its number, as a part of the bytes, with its place.
+    // A clause of a list by its number, as a part of the bytes, with its place. The system is an admitted one.
     pub fn clause(&self, list: ListName, number: usize) -> Result<Clause<'_>, WorkFault>
-        ensures { Numbered list self.now number result }
+        ensures value { Numbered list self.now number result }
+        ensures admitted { Admitted self.now }
     {
         let mut at = self.beginning(list);
         for (passed, literals) in self.list(list).enumerate() {

@@ -12,5 +12,5 @@ pub returns-then-from-relays : goal.returns-then-from-relays
 returns-then-from-relays c =
     initial_tests c.args.case.now c.args.state c.all.result
     (let n : 2 ^ c.relays.result ≡ 2 ^ c.args.case.now.n = ap (λ k. 2 ^ k) c.relays.ensures.value in let f = c.from.ensures in let t = c.if-from-relays.true in omega arith)
-    (all_from_yields_List (clause (bit c.args.state)) c.all.new.self _ _ c.all.ensures.ran (YieldsList-from_first (λ x. x.now) clauses_of {s = c.list.result} c.args.case.now.start c.list.ensures) (λ x b q k. search (rules, tests))
+    (all_from_yields_List (clause (bit c.args.state)) c.all.new.self _ _ c.all.ensures.ran (YieldsList-from_first (λ x. x.now) clauses_of {s = c.list.result} c.args.case.now.start c.list.ensures.value) (λ x b q k. search (rules, tests))
     ∙ same_from_clauses (list_all (clause (bit c.args.state))) (clauses (bit c.args.state)) (λ d rest. clause (bit c.args.state) d && rest) refl (λ _ _. refl) (λ _ _. refl) c.args.case.now.start)

@@ -11,8 +11,8 @@ pub overflow_add-result : goal.overflow_add-result
 overflow_add-result c =
     omega (arith, front_ends c.args.self.now c.beginning-at.ensures.admitted c.args.list (enumerate_count c.loop-passed.passed-iterator))
 
-pub returns-then-passed-number : goal.returns-then-passed-number
-returns-then-passed-number c =
+pub returns-then-passed-number-clause-value : goal.returns-then-passed-number-clause-value
+returns-then-passed-number-clause-value c =
     let s = c.args.self.now in
     let cs = list_of c.args.list s in
     let k = enumerate_count c.loop-passed.passed-iterator in
@@ -45,8 +45,8 @@ loop-passed-preserved c =
       place = omega (arith, ap (λ n. length (spell_clauses (take n cs))) step.2, spell_more cs k here.0, ap length here.1);
     }
 
-pub returns : goal.returns
-returns c =
+pub returns-clause-value : goal.returns-clause-value
+returns-clause-value c =
     let cs = list_of c.args.list c.args.self.now in
     let all : length cs ≤ enumerate_count c.loop-passed.passed-iterator = left_none cs _ (c.loop-passed.invariant.left ∙ c.in-None.ensures.steps.0.0) in
     (omega arith, refl)
