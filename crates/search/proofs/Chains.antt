@@ -395,6 +395,22 @@ link_set ls b q k h e = ap (link_at (set ls b k)) e ∙ get_or-set_same ls b k _
 link_kept : (ls : List Link) (b q : ℕ) (k : Link) → (q ≡ b → ⊥) → link_at (set ls b k) q ≡ link_at ls q
 link_kept ls b q k n = get_or-set_other ls b q k _ n
 
+-- the first link of a chain is taken out at the head
+pub unlinked_head : (heads : List (Option ℕ)) (ls : List Link) (at : Cursor) (next : Option ℕ) (r : ℕ) → r ≡ at.literal → at.literal < length heads → at.before ≡ None
+    → Unlinked heads (set heads r next) ls ls at next
+unlinked_head heads ls at next r e wide none =
+    let i : r < length heads = omega arith in
+    record {
+      many = refl;
+      wide = length-set heads r next;
+      clauses = λ q. refl;
+      literals = λ q. refl;
+      nexts = λ q n. refl;
+      other_heads = λ k n. get_or-set_other heads r k next None (λ f. n (f ∙ e));
+      mended_link = λ q f. cc;
+      mended_head = λ f. ap (head_of (set heads r next)) (sym e) ∙ get_or-set_same heads r next None i;
+    }
+
 -- a link that is out of its chain is put in front of another
 moved_of : (heads heads1 : List (Option ℕ)) (ls ls1 : List Link) (at : Cursor) (p l r : ℕ) (k : Link) → Unlinked heads heads1 ls ls1 at (link_at ls p).next
     → r ≡ l → l < length heads → p < length ls → (l ≡ at.literal → ⊥) → (at.before ≡ Some p → ⊥)

@@ -49,7 +49,7 @@ pub record Stays (before after : Watches) : Type 0 where
 -- nothing is watched: there is no link, and no literal leads to one
 pub record Idle (w : Watches) : Type 0 where
   pub none : vec_items w.links ≡ []
-  pub heads : w.heads ≡ replicate 256 None
+  pub heads : w.heads.value ≡ replicate 256 None
 
 -- one more is watched, where there is room for it
 abbrev pub added : ℕ → ℕ × ℕ → List (ℕ × ℕ) → List (ℕ × ℕ)

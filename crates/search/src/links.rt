@@ -23,9 +23,15 @@ fn literal_in(mask: ClauseMask, variable: u8) -> u8
 }
 
 // Takes the link at which the cursor is out of its chain: what was before it comes to lead to the next.
-fn unlink(heads: &mut [Option<usize>; 256], links: &mut Vec<Link>, at: Cursor, next: Option<usize>)
-    requires { (b : ℕ) → at.before ≡ Some b → b < length (vec_items links.old) }
-    ensures unlinked { Unlinked heads.old heads.new (vec_items links.old) (vec_items links.new) at next }
+fn unlink(
+    heads: &mut Box<[Option<usize>; 256]>,
+    links: &mut Vec<Link>,
+    at: Cursor,
+    next: Option<usize>,
+)
+    requires wide { length heads.old.value ≡ 256 }
+    requires before { (b : ℕ) → at.before ≡ Some b → b < length (vec_items links.old) }
+    ensures unlinked { Unlinked heads.old.value heads.new.value (vec_items links.old) (vec_items links.new) at next }
     ensures room { vec_capacity links.new ≡ vec_capacity links.old }
 {
     match at.before {
@@ -39,11 +45,9 @@ impl Watches {
     pub fn new(heap: Global, clauses: usize) -> Result<Watches, AllocError>
         ensures { IfOk result (λ w. Idle w × (room w ≡ min (clauses * 2) (2 ^ 64 - 1))) }
     {
+        let heads = Box::new(heap, [None; 256])?;
         let links = Vec::with_capacity(heap, clauses.saturating_mul(2))?;
-        Ok(Watches {
-            heads: [None; 256],
-            links,
-        })
+        Ok(Watches { heads, links })
     }
 
     // Watches nothing.
@@ -52,7 +56,7 @@ impl Watches {
         ensures room { room self.new ≡ room self.old }
     {
         self.links.clear();
-        self.heads = [None; 256];
+        *self.heads = [None; 256];
     }
 
     // How many links there are.
@@ -105,7 +109,7 @@ impl Watches {
     // The first link of the literal.
     pub fn first(&self, literal: u8) -> Cursor
         ensures literal { result.literal ≡ literal }
-        ensures walks { At self.now.heads (vec_items self.now.links) result (chain_of self.now.heads (vec_items self.now.links) literal) }
+        ensures walks { At self.now.heads.value (vec_items self.now.links) result (chain_of self.now.heads.value (vec_items self.now.links) literal) }
     {
         Cursor {
             literal,
@@ -132,8 +136,8 @@ impl Watches {
         stood: Standing,
         known: u128,
     ) -> Cursor
-        requires { (qs : List ℕ) × At self.old.heads (vec_items self.old.links) at qs }
-        ensures walks { (p : ℕ) (qs : List ℕ) → At self.old.heads (vec_items self.old.links) at (p ∷ qs) → At self.new.heads (vec_items self.new.links) result qs }
+        requires { (qs : List ℕ) × At self.old.heads.value (vec_items self.old.links) at qs }
+        ensures walks { (p : ℕ) (qs : List ℕ) → At self.old.heads.value (vec_items self.old.links) at (p ∷ qs) → At self.new.heads.value (vec_items self.new.links) result qs }
         ensures many { length (vec_items self.new.links) ≡ length (vec_items self.old.links) }
         ensures clauses { (p : ℕ) → (link_at (vec_items self.new.links) p).clause ≡ (link_at (vec_items self.old.links) p).clause }
         ensures literals { (p : ℕ) → (at.place ≡ Some p → ⊥) → (link_at (vec_items self.new.links) p).literal ≡ (link_at (vec_items self.old.links) p).literal }
@@ -190,10 +194,10 @@ impl Watches {
 
     // Moves the link at the place to another literal.
     fn relink(&mut self, at: Cursor, place: usize, link: Link, literal: u8)
-        requires walks { (qs : List ℕ) × At self.old.heads (vec_items self.old.links) at (place ∷ qs) }
+        requires walks { (qs : List ℕ) × At self.old.heads.value (vec_items self.old.links) at (place ∷ qs) }
         requires is { link ≡ link_at (vec_items self.old.links) place }
         requires apart { literal ≡ at.literal → ⊥ }
-        ensures moved { Moved self.old.heads self.new.heads (vec_items self.old.links) (vec_items self.new.links) at place literal }
+        ensures moved { Moved self.old.heads.value self.new.heads.value (vec_items self.old.links) (vec_items self.new.links) at place literal }
         ensures room { room self.new ≡ room self.old }
     {
         unlink(&mut self.heads, &mut self.links, at, link.next);

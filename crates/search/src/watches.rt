@@ -1,6 +1,6 @@
 // Two literals of each clause that are watched: the clause is looked at when one of them becomes false. Nothing rests on
 // what is watched but speed: a clause that goes unnoticed is found by the last pass over all held clauses.
-ghost use Rattle.std.specs.Prelude.{vec_items};
+ghost use Rattle.std.specs.Prelude.{◌≡◌, length, vec_items};
 ghost use Rattle.search.specs.Chains.{Linked, linked_prop};
 
 // A watched literal of a clause, and the place of the next link with the same literal. The two links of a clause stand
@@ -24,10 +24,13 @@ pub struct Cursor {
 // What is watched, by literal.
 #[derive(Drop)]
 pub struct Watches {
-    // for each literal the place of its first link
-    pub(crate) heads: [Option<usize>; 256],
+    // for each literal the place of its first link; in memory of their own, so that a search is small to move and takes little
+    // of the stack
+    pub(crate) heads: Box<[Option<usize>; 256]>,
     // all links stand in one table, as nothing is allocated once it is made
     pub(crate) links: Vec<Link>,
+    // one for each literal
+    ghost wide: { length heads.value ≡ 256 },
     // each literal has its chain of links
-    ghost linked: { Linked heads (vec_items links) } by { linked_prop heads (vec_items links) },
+    ghost linked: { Linked heads.value (vec_items links) } by { linked_prop heads.value (vec_items links) },
 }

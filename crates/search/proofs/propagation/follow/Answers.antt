@@ -17,7 +17,7 @@ loop-turn-preserved c =
       done = c.visit-stood.ensures.done ∙ c.loop-turn.invariant.done;
       room = c.advance-at.ensures.room ∙ c.loop-turn.invariant.room;
       walking =
-          walking_on (vec_items c.args.watches.now.links) c.args.literal c.args.masks.now (entries c.args.trail.now) (entries c.loop-turn.trail) c.loop-turn.watches.heads
+          walking_on (vec_items c.args.watches.now.links) c.args.literal c.args.masks.now (entries c.args.trail.now) (entries c.loop-turn.trail) c.loop-turn.watches.heads.value
           (vec_items c.loop-turn.watches.links) c.loop-turn.at c.loop-turn._turn c.loop-turn.invariant.walking c.in_ok-clause.field-0 c.in_ok-mask.field-0.now
           (made_true c.loop-turn.trail) c.visit-stood.result (entries c.visit-stood.new.trail) c.assigned.result c.variables.result _ _ _ c.in_ok-clause.ensures.some c.in_ok-clause.ensures.none found.3.0 found.1
           c.loop-turn.invariant.more c.loop-turn.trail.spelled c.visit-stood.ensures.stood c.visit-stood.ensures.brings c.visit-stood.ensures.more c.in_default.not-False
@@ -32,7 +32,7 @@ loop-turn-init c =
       sound = λ base each sound. sound;
       done = refl;
       room = refl;
-      walking = walking_first (vec_items w.links) c.args.literal c.args.masks.now (entries c.args.trail.now) w.heads c.first-at.result _ c.first-at.ensures.walks (w.linked c.args.literal c.ranges.literal.fits);
+      walking = walking_first (vec_items w.links) c.args.literal c.args.masks.now (entries c.args.trail.now) w.heads.value c.first-at.result _ c.first-at.ensures.walks (w.linked c.args.literal c.ranges.literal.fits);
     }
 
 -- each link stays of its clause
@@ -51,24 +51,24 @@ returns-clause-stays c = let i = c.loop-turn.invariant in stays c.args.watches.n
 -- at a place where there is no link
 pub returns-in_err-clause-clause-looked : goal.returns-in_err-clause-clause-looked
 returns-in_err-clause-clause-looked c none =
-    walked (vec_items c.args.watches.now.links) c.args.literal c.args.masks.now (entries c.args.trail.now) (entries c.loop-turn.trail) c.loop-turn.watches.heads
+    walked (vec_items c.args.watches.now.links) c.args.literal c.args.masks.now (entries c.args.trail.now) (entries c.loop-turn.trail) c.loop-turn.watches.heads.value
     (vec_items c.loop-turn.watches.links) c.loop-turn.at c.loop-turn._turn c.loop-turn.invariant.walking
-    (walked_off (vec_items c.args.watches.now.links) c.args.literal c.args.masks.now (entries c.args.trail.now) (entries c.loop-turn.trail) c.loop-turn.watches.heads
+    (walked_off (vec_items c.args.watches.now.links) c.args.literal c.args.masks.now (entries c.args.trail.now) (entries c.loop-turn.trail) c.loop-turn.watches.heads.value
     (vec_items c.loop-turn.watches.links) c.loop-turn.at c.loop-turn._turn c.loop-turn.invariant.walking c.in_err-clause.ensures.some)
 
 pub returns-in_err-clause-clause-settled : goal.returns-in_err-clause-clause-settled
 returns-in_err-clause-clause-settled c none =
-    all_settled (vec_items c.args.watches.now.links) c.args.literal c.args.masks.now (entries c.args.trail.now) (entries c.loop-turn.trail) c.loop-turn.watches.heads
+    all_settled (vec_items c.args.watches.now.links) c.args.literal c.args.masks.now (entries c.args.trail.now) (entries c.loop-turn.trail) c.loop-turn.watches.heads.value
     (vec_items c.loop-turn.watches.links) c.loop-turn.at c.loop-turn._turn c.loop-turn.invariant.walking
-    (walked_off (vec_items c.args.watches.now.links) c.args.literal c.args.masks.now (entries c.args.trail.now) (entries c.loop-turn.trail) c.loop-turn.watches.heads
+    (walked_off (vec_items c.args.watches.now.links) c.args.literal c.args.masks.now (entries c.args.trail.now) (entries c.loop-turn.trail) c.loop-turn.watches.heads.value
     (vec_items c.loop-turn.watches.links) c.loop-turn.at c.loop-turn._turn c.loop-turn.invariant.walking c.in_err-clause.ensures.some)
 
 -- after as many turns as there are links
 pub returns-clause-settled : goal.returns-clause-settled
 returns-clause-settled c none =
-    all_settled (vec_items c.args.watches.now.links) c.args.literal c.args.masks.now (entries c.args.trail.now) (entries c.loop-turn.trail) c.loop-turn.watches.heads
+    all_settled (vec_items c.args.watches.now.links) c.args.literal c.args.masks.now (entries c.args.trail.now) (entries c.loop-turn.trail) c.loop-turn.watches.heads.value
     (vec_items c.loop-turn.watches.links) c.loop-turn.at c.loop-turn._turn c.loop-turn.invariant.walking
-    (walked_all (vec_items c.args.watches.now.links) c.args.literal c.args.masks.now (entries c.args.trail.now) (entries c.loop-turn.trail) c.loop-turn.watches.heads
+    (walked_all (vec_items c.args.watches.now.links) c.args.literal c.args.masks.now (entries c.args.trail.now) (entries c.loop-turn.trail) c.loop-turn.watches.heads.value
     (vec_items c.loop-turn.watches.links) c.loop-turn.at c.loop-turn._turn c.loop-turn.invariant.walking (omega arith))
 
 pub returns-in-False-clause-sound : goal.returns-in-False-clause-sound

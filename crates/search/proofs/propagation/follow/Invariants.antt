@@ -14,5 +14,5 @@ invariant-loop-turn l =
       sound : (base : List (List ℕ)) → Each base l.masks → Sound base (entries l.initial.trail) → Sound base (entries l.trail);
       done : l.trail.done ≡ l.initial.trail.done;
       room : room l.watches ≡ room l.initial.watches;
-      walking : Walking (vec_items l.initial.watches.links) l.literal l.masks (entries l.initial.trail) (entries l.trail) l.watches.heads (vec_items l.watches.links) l.at l._turn;
+      walking : Walking (vec_items l.initial.watches.links) l.literal l.masks (entries l.initial.trail) (entries l.trail) l.watches.heads.value (vec_items l.watches.links) l.at l._turn;
     }
