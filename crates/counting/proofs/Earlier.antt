@@ -1,14 +1,15 @@
 -- Assignments in their order: where no assignment before one serves, and it does not, none before the next does. Assumes nothing.
-use Rattle.std.proofs.Common.{◌≡◌, ℕ, zero, suc, ◌+◌, ◌^◌, ◌<◌, ◌≤◌, Bool, true, false, not, ◌&&◌, T, ◌⊎◌, List, Some, None, Option, is_none, sym, ap, ◌∙◌, subst, inl, inr, arith, pow_mono}
+use Rattle.std.proofs.Common.{◌≡◌, ℕ, zero, suc, ◌+◌, ◌^◌, ◌<◌, ◌≤◌, Bool, true, false, not, ◌&&◌, T, ◌⊎◌, List, Some, None, Option, is_none, refl, sym, ap, ap₂, ◌∙◌, subst, inl, inr, arith, pow_mono}
 use Rattle.std.proofs.lemmas.Bool.{cases_Bool, cases_lt, cases_order, true≢false, and_from, and_parts, not-true}
 use Rattle.system.specs.Literals.{Valuation, bit, clauses}
 use Rattle.system.proofs.Bits.{bit_none, bit_above}
-use Rattle.masks.specs.Masks.{Fails, Apart}
+use Rattle.masks.specs.Masks.{inside, mask_of, Fails, Apart, Meets}
 use Rattle.masks.specs.declared.mask.ClauseMask.{ClauseMask}
 use Rattle.masks.proofs.Sets.{clash}
+use Rattle.masks.proofs.Meaning.{listed_in, unit_apart}
 use Rattle.masks.proofs.Asked.{among_implied}
-use Rattle.masks.specs.Questions.{Given, Within, Among, Checked, AllMet, AllKept}
-use Rattle.counting.specs.Orders.{Before, Stepped}
+use Rattle.masks.specs.Questions.{unit, Given, Within, Among, Checked, AllMet, AllKept}
+use Rattle.counting.specs.Orders.{Before, Stepped, opposed}
 
 -- at each variable of x from i on, below k, a test holds
 abbrev Holds : ℕ → ℕ → ℕ → (ℕ → Bool) → Type 0
@@ -90,6 +91,21 @@ missed_fails x t f m falses within apart a agree j true h = agree j (within j tr
 missed_fails x t f m falses within apart a agree j false h =
     agree j (within j false h)
     ∙ elim (cases_Bool (bit t j)) [ inl p ↦ p | inr n ↦ clash (bit f j) (falses j ∙ and_from (bit x j) (not (bit t j)) (within j false h) (ap not n)) (apart j false h) ]
+
+-- where the opposite of an assumed literal is in an assignment, the literal is not
+turned : (m : ClauseMask) (j : ℕ) (b : Bool) → inside (opposed m) j b ≡ true → inside m j (not b) ≡ true
+turned m j true t = t
+turned m j false t = t
+
+other_value : (s : ClauseMask) → ((j : ℕ) → bit s.positive j ≡ true → bit s.negative j ≡ true → ⊥) → (j : ℕ) (b : Bool) → inside s j b ≡ true → inside s j (not b) ≡ false
+other_value s once j true h = elim (cases_Bool (bit s.negative j)) [ inl p ↦ absurd (once j h p) | inr n ↦ n ]
+other_value s once j false h = elim (cases_Bool (bit s.positive j)) [ inl p ↦ absurd (once j p h) | inr n ↦ n ]
+
+pub opposite_missed : (masks : List ClauseMask) (assumed : List ℕ) (set m : ClauseMask) → m ≡ opposed (mask_of assumed) → ((j : ℕ) → bit set.positive j ≡ true → bit set.negative j ≡ true → ⊥)
+    → Meets m set → (x : ClauseMask) × Checked masks assumed set (Some x)
+opposite_missed masks assumed set m e once (j, b, i, h) =
+    let (l, c, p, q) = listed_in assumed j (not b) (turned (mask_of assumed) j b (subst (λ n. inside n j b ≡ true) e i)) in
+    (unit l, (inr (l, c, refl), unit_apart l set (ap₂ (inside set) (sym p) (sym q) ∙ other_value set once j b h)))
 
 -- no variable is both true and false
 pub one_value : (x t f : ℕ) → ((j : ℕ) → bit f j ≡ (bit x j && not (bit t j))) → (j : ℕ) → bit t j ≡ true → bit f j ≡ true → ⊥

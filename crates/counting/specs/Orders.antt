@@ -1,6 +1,7 @@
 -- The order of the assignments, and the step from one to the next.
 use Rattle.std.specs.Prelude.{◌≡◌, ℕ, zero, suc, ◌+◌, ◌^◌, ◌<◌, Bool, true, false, cond}
 use Rattle.system.specs.Literals.{Valuation, bit}
+use Rattle.masks.specs.declared.mask.ClauseMask.{ClauseMask}
 
 -- a, on the variables of x, comes before the assignment t: at the first where they differ a is false
 abbrev pub Before : ℕ → Valuation → ℕ → Type 0
@@ -19,3 +20,7 @@ pub record Stepped (t f r q : ℕ) : Type 0 where
   pub now_true : bit r q ≡ true
   pub same : (j : ℕ) → j < q → bit r j ≡ bit t j
   pub cleared : (j : ℕ) → q < j → bit r j ≡ false
+
+-- the opposites of the literals of a set
+abbrev pub opposed : ClauseMask → ClauseMask
+opposed m = record { positive = m.negative; negative = m.positive }

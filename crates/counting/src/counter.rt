@@ -1,7 +1,10 @@
 // The count through all assignments, and the step from one to the next.
-ghost use Rattle.std.specs.Prelude.{◌≡◌, ℕ, true, is_ok, MatchOption};
-ghost use Rattle.masks.specs.Questions.{Decided};
-ghost use Rattle.counting.specs.Orders.{Stepped};
+ghost use Rattle.std.specs.Prelude.{◌≡◌, ℕ, true, Option, is_ok, is_none, MatchOption};
+ghost use Rattle.system.specs.Literals.{bit};
+ghost use Rattle.masks.specs.Masks.{mask_of};
+ghost use Rattle.masks.specs.Questions.{Checked, Decided};
+ghost use Rattle.masks.specs.declared.mask.ClauseMask.{ClauseMask};
+ghost use Rattle.counting.specs.Orders.{Stepped, opposed};
 
 use keeping::Engine;
 use masks::{ClauseMask, Question, without, yes_of};
@@ -38,18 +41,36 @@ fn next(trues: u128, falses: u128) -> Option<u128>
     Some((trues % bit) | bit)
 }
 
+// Whether the assignment makes every held clause and assumed literal true. The opposites of the assumed literals are tested at
+// once before the clauses: there may be many of either, and the test is made at each assignment.
+fn serves(question: Question, opposites: ClauseMask, assignment: ClauseMask) -> bool
+    requires opposites { opposites ≡ opposed (mask_of question.assumed.now) }
+    requires once { (j : ℕ) → bit assignment.positive j ≡ true → bit assignment.negative j ≡ true → ⊥ }
+    ensures { (unmet : Option ClauseMask) × Checked question.entry.masks.now question.entry.assumed.now assignment unmet × (result ≡ is_none unmet) }
+{
+    if !question.assumed.is_empty() && opposites.meets(assignment) {
+        return false;
+    }
+    question.unmet(assignment).is_none()
+}
+
 // The answer: the first assignment that serves, or none.
 fn counted(question: Question) -> Answer
     ensures { Decided question.entry result }
 {
     let all = question.variables();
+    let assumed = ClauseMask::from(question.assumed);
+    let opposites = ClauseMask {
+        positive: assumed.negative,
+        negative: assumed.positive,
+    };
     let mut trues = 0;
     'assignments: loop {
         let assignment = ClauseMask {
             positive: trues,
             negative: without(all, trues),
         };
-        if question.unmet(assignment).is_none() {
+        if serves(question, opposites, assignment) {
             return yes_of(trues);
         }
         let Some(following) = next(trues, assignment.negative) else {

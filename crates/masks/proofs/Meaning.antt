@@ -47,6 +47,19 @@ unit_met l s h = (l / 2, eqb (l % 2) 0, with_own none l, h)
 pub unit_apart : (l : ℕ) (s : ClauseMask) → inside s (l / 2) (eqb (l % 2) 0) ≡ false → Apart (unit l) s
 unit_apart l s h j b i = let e = unit_is l j b i in ap₂ (inside s) e.0 e.1 ∙ h
 
+-- what is in the set of a clause is a literal of it
+folded_in : (c : List ℕ) (m : ClauseMask) (j : ℕ) (b : Bool) → inside (fold with_literal m c) j b ≡ true
+    → (inside m j b ≡ true) ⊎ ((l : ℕ) × Contains c l × (j ≡ l / 2) × (b ≡ eqb (l % 2) 0))
+folded_in [] m j b t = inl t
+folded_in (l ∷ c) m j b t =
+    elim (folded_in c (with_literal m l) j b t) [
+      | inl p ↦ elim (with_cases m l j b p) [ inl q ↦ inl q | inr q ↦ inr (l, Contains-get_or (l ∷ c) 0 0 (omega arith), q.0, q.1) ]
+      | inr (k, h, e, f) ↦ inr (k, Contains-append_right (l ∷ []) c k h, e, f)
+    ]
+
+pub listed_in : (c : List ℕ) (j : ℕ) (b : Bool) → inside (mask_of c) j b ≡ true → (l : ℕ) × Contains c l × (j ≡ l / 2) × (b ≡ eqb (l % 2) 0)
+listed_in c j b t = elim (folded_in c none j b t) [ inl p ↦ clash (inside none j b) p (inside_none j b) | inr q ↦ q ]
+
 -- a literal that is in the set of a clause and true makes the clause true
 folded_true : (a : Valuation) (c : List ℕ) (m : ClauseMask) (j : ℕ) (b : Bool) → inside (fold with_literal m c) j b ≡ true → a j ≡ b → (inside m j b ≡ true) ⊎ (clause a c ≡ true)
 folded_true a [] m j b t e = inl t

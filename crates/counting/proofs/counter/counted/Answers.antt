@@ -22,7 +22,7 @@ assignments-preserved c =
       ]),
       (λ base given. next_early x t f c.variables-all.type_inv c.without.ensures (λ a. T (clauses a base))
           (i.1 base given)
-          (not_here _ _ base x t f c.unmet.result c.without.ensures c.variables-all.ensures.all c.unmet.ensures (search rules) given)
+          (not_here _ _ base x t f c.serves.ensures.0 c.without.ensures c.variables-all.ensures.all c.serves.ensures.1 (search rules) given)
           c.in-Some.following q s),
       omega arith,
     )
@@ -37,11 +37,11 @@ assignments-smaller c =
     let b = rank_below 128 (bit c.in-Some.following) in
     omega arith
 
-pub returns-then-is_none : goal.returns-then-is_none
-returns-then-is_none c held e =
+pub returns-then-serves : goal.returns-then-serves
+returns-then-serves c held e =
     let t = c.assignments.trues in
     let f = c.without.result in
-    let met = all_met _ _ _ c.unmet.result c.unmet.ensures (search rules) in
+    let met = all_met _ _ _ c.serves.ensures.0 c.serves.ensures.1 (search rules) in
     subst (Answered held c.args.question.assumed.now) (sym c.yes_of.ensures)
     (yes_answered (record { positive = t; negative = f }) (one_value c.variables-all.result t f c.without.ensures) held c.args.question.assumed.now c.args.question.masks.now e met.0 met.1)
 
@@ -53,5 +53,8 @@ returns-in_default c held e =
     let f = c.without.result in
     none_left x t f c.variables-all.type_inv c.without.ensures (λ a. T (clauses a base))
     (c.assignments.invariant.1 base given)
-    (not_here _ _ base x t f c.unmet.result c.without.ensures c.variables-all.ensures.all c.unmet.ensures (search rules) given)
+    (not_here _ _ base x t f c.serves.ensures.0 c.without.ensures c.variables-all.ensures.all c.serves.ensures.1 (search rules) given)
     c.in_default.ensures)
+
+pub serves-requires-clause-once : goal.serves-requires-clause-once
+serves-requires-clause-once c = one_value c.variables-all.result c.assignments.trues c.without.result c.without.ensures
