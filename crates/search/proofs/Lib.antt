@@ -1,5 +1,6 @@
 mod Assuming
 mod Chains
+mod Lasting
 mod Linking
 mod Looking
 mod Settling

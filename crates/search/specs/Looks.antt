@@ -12,7 +12,7 @@ use Rattle.trail.specs.Entries.{entries, handed_out}
 use Rattle.trail.specs.declared.decision.Decision.{Decision}
 use Rattle.search.specs.Chains.{link_at}
 use Rattle.search.specs.Watched.{watched, Begun}
-use Rattle.search.specs.Searches.{Extends, Brings}
+use Rattle.search.specs.Searches.{Extends, NoChoice, Brings}
 use Rattle.search.specs.declared.search.Search.{Search}
 use Rattle.search.specs.declared.watches.Link.{Link}
 
@@ -52,6 +52,13 @@ true_by ds l = has ds (l / 2) (l % 2 == 0)
 -- the first n of the assumed literals are true by the decisions
 abbrev pub AssumedTo : ℕ → List ℕ → List Decision → Type 0
 AssumedTo n ls ds = (k : ℕ) → k < n → true_by ds (slice_index ls k) ≡ true
+
+-- the first decisions, among which is no choice, make every one of the literals true
+pub record Grounded (ls : List ℕ) (ds : List Decision) : Type 0 where
+  pub first : List Decision
+  pub unchosen : NoChoice first
+  pub reached : Extends first ds
+  pub assumed : AssumedTo (length ls) ls first
 
 -- the first pass went over all the clauses, from decisions that make every assumed literal true
 pub record FirstPass (ms : List ClauseMask) (ls : List ℕ) (room : ℕ) (s : Search) : Type 0 where

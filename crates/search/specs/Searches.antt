@@ -1,5 +1,5 @@
 -- What the steps of a search do: propagating, choosing, and jumping back.
-use Rattle.std.specs.Prelude.{◌≡◌, ℕ, ◌<◌, ◌≤◌, true, false, List, [], ◌∷◌, ◌++◌, Some, None, Option, vec_items, vec_len}
+use Rattle.std.specs.Prelude.{◌≡◌, ℕ, ◌<◌, ◌≤◌, true, false, List, [], ◌∷◌, ◌++◌, length, take, All, Some, None, Option, vec_items, vec_len}
 use Rattle.system.specs.Literals.{bit}
 use Rattle.masks.specs.Masks.{Implied}
 use Rattle.masks.specs.Questions.{Each, Given, Hopeless, AllMet, AllKept, Among, Within}
@@ -12,6 +12,7 @@ use Rattle.trail.specs.Changes.{Appended}
 use Rattle.trail.specs.Reasons.{Refuted, Sound, height}
 use Rattle.trail.specs.declared.decision.Decision.{Decision}
 use Rattle.trail.specs.declared.decision.Forcing.TheVariants.{Chosen, Forced}
+use Rattle.analysis.specs.Conflicts.{ChosenAt}
 use Rattle.search.specs.Watched.{Idle}
 use Rattle.search.specs.declared.learned.TheConstants.{MOST}
 use Rattle.search.specs.declared.progress.Progress.{Progress}
@@ -21,6 +22,22 @@ use Rattle.search.specs.declared.search.Search.{Search}
 -- decisions were added at the end
 abbrev pub Extends : List Decision → List Decision → Type 0
 Extends ds es = (more : List Decision) × (es ≡ ds ++ more)
+
+-- none of the decisions is a choice
+abbrev pub NoChoice : List Decision → Type 0
+NoChoice ds = All (λ (d : Decision). d.forcing ≡ Chosen → ⊥) ds
+
+-- what the decisions begin with stays, as far as there is no choice in it
+abbrev pub Lasts : List Decision → List Decision → Type 0
+Lasts ds es = (first : List Decision) → NoChoice first → Extends first ds → Extends first es
+
+-- a jump goes back to a choice: those before it stay, and one decision takes the place of the choice and of all behind it
+pub record Jumped (ds es : List Decision) : Type 0 where
+  pub place : ℕ
+  pub within : place < length ds
+  pub chosen : ChosenAt ds place
+  pub made : Decision
+  pub is : es ≡ take place ds ++ made ∷ []
 
 -- what looking at a clause brings, by how it stood: a literal that it forces is decided, with the clause as the reason, and else
 -- the decisions stay; one that is all false is so by the decisions

@@ -6,9 +6,9 @@ ghost use Rattle.masks.specs.Questions.{Units, Decided};
 ghost use Rattle.masks.specs.Standings.{Unassigned};
 ghost use Rattle.trail.specs.Entries.{entries, made_true};
 ghost use Rattle.trail.specs.Reasons.{Refuted};
-ghost use Rattle.search.specs.Searches.{Conflict, Asked, Occurring, Keeps, Refutes, Taught, Remembers, Chooses, Rises, Satisfies, Turned, Fresh};
+ghost use Rattle.search.specs.Searches.{Conflict, Asked, Occurring, Keeps, Refutes, Taught, Remembers, Chooses, Rises, Satisfies, Turned, Fresh, NoChoice, Lasts, Jumped};
 ghost use Rattle.search.specs.Watched.{first_other, room, Stays};
-ghost use Rattle.search.specs.Looks.{AssumedTo, FirstPass, Named};
+ghost use Rattle.search.specs.Looks.{AssumedTo, Grounded, FirstPass, Named};
 
 use crate::learned::Learned;
 use crate::progress::{Progress, Unsatisfiable};
@@ -52,6 +52,7 @@ impl Search {
         requires { Refuted conflict (entries self.old.trail) }
         ensures keeps { Keeps (λ base. Implied base conflict) self.old self.new }
         ensures taught { IfOk result (λ _. Taught self.new) }
+        ensures jumped { IfOk result (λ _. Jumped (entries self.old.trail) (entries self.new.trail)) }
         ensures cases { MatchResult result (λ _. Rises self.old self.new) (λ _. Refutes (λ base. Implied base conflict) self.old) }
         ensures kept { self.new.watches ≡ self.old.watches }
         ensures remembered { MatchResult result (λ _. Remembers self.old self.new) (λ _. self.new ≡ self.old) }
@@ -88,6 +89,7 @@ impl Search {
         requires { Occurring question occurring }
         ensures keeps { Keeps (Asked question.entry) self.old self.new }
         ensures cases { MatchResult result (Turned question.entry self.old self.new) (λ _. Refutes (Asked question.entry) self.old) }
+        ensures lasts { IfOk result (λ _. Lasts (entries self.old.trail) (entries self.new.trail)) }
         ensures kept { self.new.watches ≡ self.old.watches }
     {
         let assigned = self.trail.assigned();
@@ -109,6 +111,7 @@ impl Search {
         requires named { Named (vec_items self.old.watches.links) (length question.masks.now) }
         ensures keeps { Keeps (Asked question.entry) self.old self.new }
         ensures cases { MatchResult result (Turned question.entry self.old self.new) (λ _. Refutes (Asked question.entry) self.old) }
+        ensures lasts { IfOk result (λ _. Lasts (entries self.old.trail) (entries self.new.trail)) }
         ensures stays { Stays self.old.watches self.new.watches }
     {
         if let Some(conflict) = self.propagate(question.masks) {
@@ -123,6 +126,7 @@ impl Search {
         ensures keeps { Keeps (λ base. Units base assumed.now) self.old self.new }
         ensures found { Conflict (entries self.new.trail) (λ base. Units base assumed.now) result }
         ensures assumed { result ≡ None → AssumedTo (length assumed.now) assumed.now (entries self.new.trail) }
+        ensures unchosen { NoChoice (entries self.old.trail) → NoChoice (entries self.new.trail) }
         ensures kept { self.new.watches ≡ self.old.watches }
         ensures learned { self.new.learned ≡ self.old.learned }
     {
@@ -141,6 +145,7 @@ impl Search {
     fn begin(&mut self, question: Question) -> Result<(), Unsatisfiable>
         ensures keeps { Keeps (Asked question.entry) self.old self.new }
         ensures cases { MatchResult result (λ _. Unit {0}) (λ _. Refutes (Asked question.entry) self.old) }
+        ensures grounded { NoChoice (entries self.old.trail) → IfOk result (λ _. Grounded question.entry.assumed.now (entries self.new.trail)) }
         ensures begun { IfOk result (λ _. Taught self.new ⊎ FirstPass question.entry.masks.now question.entry.assumed.now (room self.old.watches) self.new) }
         ensures named { Named (vec_items self.old.watches.links) (length question.entry.masks.now) → Named (vec_items self.new.watches.links) (length question.entry.masks.now) }
         ensures room { room self.new.watches ≡ room self.old.watches }
@@ -160,11 +165,16 @@ impl Search {
         ensures cases { MatchResult result (λ _. Satisfies self.new question.entry) (λ _. Refutes (Asked question.entry) self.old) }
         ensures room { room self.new.watches ≡ room self.old.watches }
     {
-        // after the first pass: where it finds that nothing can be true, no further literal is looked at
         self.begin(question)?;
-        let occurring = question.variables();
+        // What is assumed stands on the trail before the first choice, so it stays true: from here on the held clauses alone
+        // are to be met. Their variables are gathered only now, since the first pass may end with a no.
+        let held = Question {
+            assumed: &[],
+            ..question
+        };
+        let occurring = held.variables();
         'turns: loop {
-            match self.turn(question, occurring)? {
+            match self.turn(held, occurring)? {
                 Progress::Satisfied => return Ok(()),
                 Progress::Further => {}
             }

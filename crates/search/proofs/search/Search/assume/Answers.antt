@@ -4,9 +4,10 @@ use Rattle.masks.proofs.Meaning.{assumed_value}
 use Rattle.trail.specs.Entries.{entries}
 use Rattle.trail.proofs.Deciding.{free_in}
 use Rattle.search.specs.Looks.{AssumedTo}
-use Rattle.search.specs.Searches.{Upheld}
+use Rattle.search.specs.Searches.{Upheld, NoChoice}
 use Rattle.search.specs.declared.search.Search.{Search}
 use Rattle.search.proofs.Assuming.{unit_stood, unit_decided, assumed_next}
+use Rattle.search.proofs.Lasting.{no_choice_assumed}
 use Rattle.search.proofs.Stepping.{extends_same, spells_of, refuted_of, sound_appended}
 use Rattle.search.proofs.search.Search.assume.Goals as goal
 use Rattle.search.proofs.search.Search.assume.Goals.{in-Forces, in-True}
@@ -37,6 +38,7 @@ loop-literal-preserved c =
                 subst (λ (s : Search). AssumedTo (i + 1) ls (entries s.trail)) (sym w.self-is)
                 (assumed_next i ls ds (entries w.assign.new.self) before.assumed (made.made ∷ [], made.is)
                 (unit_decided (get_or ls i 0) l.variable l.value _ ds (entries w.assign.new.self) made own));
+            unchosen = λ none. subst (λ (s : Search). NoChoice (entries s.trail)) (sym w.self-is) (no_choice_assumed ds (entries w.assign.new.self) _ _ made (before.unchosen none));
             kept = ap (λ (s : Search). s.watches) w.self-is ∙ before.kept;
             learned = ap (λ (s : Search). s.learned) w.self-is ∙ before.learned;
           }
@@ -47,6 +49,7 @@ loop-literal-preserved c =
                 subst (λ (s : Search). AssumedTo (i + 1) ls (entries s.trail)) (sym w.self-is)
                 (assumed_next i ls ds ds before.assumed (extends_same ds ds refl)
                 (unit_stood (get_or ls i 0) c.with_literal-mask.result s ds c.standing.result c.with_literal-mask.ensures spelled c.standing.ensures w.in-True.is));
+            unchosen = λ none. subst (λ (s : Search). NoChoice (entries s.trail)) (sym w.self-is) (before.unchosen none);
             kept = ap (λ (s : Search). s.watches) w.self-is ∙ before.kept;
             learned = ap (λ (s : Search). s.learned) w.self-is ∙ before.learned;
           }

@@ -28,3 +28,10 @@ returns-clause-cases c =
     let found = rw c.in_ok-jump.ensures.ok_part at c.analyze.ensures in
     let made = c.change.ensures.entries.taken found.0 found.1 found.2 in
     height_changed (entries c.args.self.now.trail) (entries c.change.new.self) jump.to _ _ _ c.args.self.now.trail.once found.0 found.3 made
+
+pub returns-clause-jumped : goal.returns-clause-jumped
+returns-clause-jumped c =
+    let jump = c.in_ok-jump.jump in
+    let found = rw c.in_ok-jump.ensures.ok_part at c.analyze.ensures in
+    let made = c.change.ensures.entries.taken found.0 found.1 found.2 in
+    record { place = jump.to; within = found.0; chosen = found.3; made = made.made; is = made.is }
